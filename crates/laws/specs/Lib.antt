@@ -1,0 +1,9 @@
+pub mod Merge
+pub mod Lens
+pub mod Ranges
+pub mod Bits
+pub mod All
+pub mod Find
+pub mod Bytes
+pub mod Pigeon
+pub mod Masks

@@ -1,0 +1,5 @@
+pub mod Numbers
+pub mod Names
+pub mod Decode
+pub mod Frame
+pub mod Layout
