@@ -1,17 +1,16 @@
 -- What a decoded request says is what stands in the message: its subcommand, and its numbers, read front to back by that subcommand's layout. Assumes nothing.
-use mathlib.Core.Path.{_≡_, refl, sym, ap, subst}
-use mathlib.Core.Bool.{Bool, true, false, cond, _&&_}
+use mathlib.Core.Path.{_≡_, refl, ap}
+use mathlib.Core.Bool.{cond}
 use mathlib.Core.List.{List, [], _∷_}
-use Prim.Native.Nat.{ℕ, zero, suc, _+_, _*_, _≤_, _<_}
-use native.Mathlib.Decide.{ℕ-discrete}
+use Prim.Native.Nat.{ℕ, suc, _+_, _*_, _≤_}
 use native.Mathlib.Omega.{arith}
-use borrow.Author.Tests.{leb-true}
-use lib.Dec.{eqb, leb}
-use lib.ListN.{length, getD, take, drop}
-use Rattle.laws.specs.Bytes.{little, same, text}
-use Rattle.protocol.specs.Numbers.{oem, headerSize, messageSize, invalid, wrongLength, unknownCommand, countCommand, enumerateCommand, openCommand, readCommand, writeCommand, commitCommand, deleteCommand, statCommand, writeMetaCommand}
-use Rattle.protocol.specs.Names.{nameForm, blobNamed}
-use Rattle.protocol.specs.Decode.{numberOf, valuesOf, refusedWith, subcommand, bodyLength, fieldsAt, sessionIn, bodyFits, crcFits, withName, asked, decoded}
+use lib.Dec.{eqb}
+use lib.ListN.{getD, drop}
+use Rattle.laws.specs.Bytes.{little, text}
+use Rattle.protocol.specs.Numbers.{countCommand, enumerateCommand, openCommand, readCommand, writeCommand, commitCommand, deleteCommand, statCommand, writeMetaCommand}
+use Rattle.protocol.specs.Names.{blobNamed}
+use Rattle.protocol.specs.Decode.{numberOf, valuesOf, subcommand, fieldsAt, sessionIn, withName, asked, decoded}
+use Rattle.protocol.specs.Cases.{Each, each-command, named-case, decoded-case}
 use Rattle.protocol.specs.declared.Blob.{Blob}
 use Rattle.protocol.specs.declared.Request.{Request}
 use Rattle.protocol.specs.declared.Request.the-variants.{Open, Delete, Stat}
@@ -41,35 +40,15 @@ pub record Says (sub : ℕ) (m : List ℕ) (r : Request) : Type 0 where
 abbrev Accepted : Request → Type 0
 Accepted r = numberOf r ≤ writeMetaCommand
 
--- one check: it passed, or the request is a refusal
-checked : (sub : ℕ) (m : List ℕ) (y : Bool) (r : Request) (code : ℕ) → writeMetaCommand + 1 ≤ code → (y ≡ true → Accepted r → Says sub m r)
-    → Accepted (cond y r (refusedWith code)) → Says sub m (cond y r (refusedWith code))
-checked sub m true r code h f a = f refl a
-checked sub m false r code h f a = absurd (omega arith)
-
-named : (sub at : ℕ) (m : List ℕ) (f : Blob → Request) → ((b : Blob) → Says sub m (f b)) → Accepted (withName at m f) → Says sub m (withName at m f)
-unfolding withName
-named sub at m f h a = checked sub m (nameForm (drop at m)) (f (blobNamed at (text (drop at m)))) invalid (omega arith) (λ _ _. h (blobNamed at (text (drop at m)))) a
-
--- what holds of each number below n
-abbrev Each : (ℕ → Type 0) → ℕ → Type 0
-Each P zero = Unit {0}
-Each P (suc n) = Each P n × P n
-
-each-at : (P : ℕ → Type 0) (n k : ℕ) → Each P n → k < n → P k
-each-at P zero k e l = absurd (omega arith)
-each-at P (suc n) k e l = go (ℕ-discrete k n) (each-at P n k (e .0))
-  where
-    go : Dec (k ≡ n) → (k < n → P k) → P k
-    go (yes q) ih = subst P (sym q) (e .1)
-    go (no q) ih = ih (omega arith)
-
 abbrev Right : List ℕ → ℕ → Type 0
 Right m sub = Accepted (asked sub m) → Says sub m (asked sub m)
 
-asked-says : (sub : ℕ) (m : List ℕ) → sub ≤ writeMetaCommand → Right m sub
+named : (sub at : ℕ) (m : List ℕ) (f : Blob → Request) → ((b : Blob) → Says sub m (f b)) → Accepted (withName at m f) → Says sub m (withName at m f)
+named sub at m f h = named-case (λ (r : Request). Accepted r → Says sub m r) at m f (λ a. absurd (omega arith)) (λ _ _. h (blobNamed at (text (drop at m))))
+
+asked-says : (m : List ℕ) → Each (Right m) (suc writeMetaCommand)
 unfolding asked layout numbersAt little
-asked-says sub m l = each-at (Right m) (writeMetaCommand + 1) sub (((((((((((tt, plain refl refl), plain refl refl), opens), plain refl refl), plain refl refl), commits), plain refl refl), deletes), stats), plain refl refl), plain refl refl) (omega arith)
+asked-says m = (((((((((((tt, plain refl refl), plain refl refl), opens), plain refl refl), plain refl refl), commits), plain refl refl), deletes), stats), plain refl refl), plain refl refl)
   where
     plain : {k : ℕ} {r : Request} → numberOf r ≡ k → valuesOf r ≡ numbersAt (layout k) fieldsAt m → Accepted r → Says k m r
     plain p q a = record { command = p; numbers = q }
@@ -91,11 +70,6 @@ asked-says sub m l = each-at (Right m) (writeMetaCommand + 1) sub (((((((((((tt,
 
 -- A MESSAGE THAT IS NOT REFUSED ASKS WHAT STANDS IN IT
 pub accepted-says : (m : List ℕ) → numberOf (decoded m) ≤ writeMetaCommand → Says (subcommand m) m (decoded m)
-unfolding decoded
-accepted-says m a =
-    checked (subcommand m) m (leb headerSize (length m) && leb (length m) messageSize) _ wrongLength (omega arith)
-    (λ _. checked (subcommand m) m (same (take (length oem) m) oem) _ invalid (omega arith)
-    (λ _. checked (subcommand m) m (leb (subcommand m) writeMetaCommand) _ unknownCommand (omega arith)
-    (λ (c : leb (subcommand m) writeMetaCommand ≡ true). checked (subcommand m) m (bodyFits (subcommand m) (bodyLength m)) _ wrongLength (omega arith)
-    (λ _. checked (subcommand m) m (crcFits m) (asked (subcommand m) m) invalid (omega arith)
-    (λ _. asked-says (subcommand m) m (leb-true (subcommand m) writeMetaCommand c)))))) a
+accepted-says m =
+    decoded-case (λ (r : Request). Accepted r → Says (subcommand m) m r) m (λ a. absurd (omega arith)) (λ a. absurd (omega arith)) (λ a. absurd (omega arith))
+    (λ _ (c : subcommand m ≤ writeMetaCommand) _. each-command (Right m) (subcommand m) (asked-says m) c)

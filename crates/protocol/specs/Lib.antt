@@ -2,4 +2,6 @@ pub mod Numbers
 pub mod Names
 pub mod Decode
 pub mod Frame
+pub mod Cases
 pub mod Layout
+pub mod Inside

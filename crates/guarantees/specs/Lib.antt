@@ -1,0 +1,12 @@
+pub mod StorePart
+pub mod FlashPart
+pub mod Merging
+pub mod Naming
+pub mod Keep
+pub mod Refusals
+pub mod FlashPromise
+pub mod Fits
+pub mod Sessions
+pub mod Answer
+pub mod Premises
+pub mod FlashHistory

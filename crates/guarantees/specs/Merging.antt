@@ -1,0 +1,279 @@
+-- DEMAND 3, on bytes: events are messages with their clocks, and job outcomes. Whatever the order in which the lists of several sessions are merged,
+-- each request is answered as in its list run whole, and the whole end state is the same. Assumes nothing.
+use mathlib.Core.Path.{_≡_, refl, sym, _∙_, ap, ap₂, subst}
+use mathlib.Core.Logic.{_≢_}
+use mathlib.Core.Bool.{Bool, true, false, cond, _&&_}
+use mathlib.Core.Option.{Option}
+use mathlib.Core.List.{List, [], _++_}
+use Prim.Native.Nat.{ℕ, _≤_, _<_}
+use native.Mathlib.Decide.{ℕ-discrete}
+use lib.Dec.{ltb, eqb, leb}
+use lib.ListN.{drop}
+use borrow.Author.Tests.{ltb-true, eqb-true, eq-eqb, ne-eqb, le-leb, leb-true}
+use Rattle.laws.specs.Merge.{Apart, Same, Merges, Merge, All, whole, times, tag, of, answers, alone, family, two, apart-same}
+use Rattle.laws.specs.Lens.{local-apart}
+use Rattle.laws.specs.Find.{first-some, first-none, and-false}
+use Rattle.protocol.specs.Numbers.{rowCount, slotCount}
+use Rattle.protocol.specs.Decode.{decoded, numberOf}
+use Rattle.protocol.specs.Frame.{Reply, refused, Answer, framed}
+use Rattle.protocol.specs.declared.Request.{Request}
+use Rattle.protocol.specs.declared.Request.the-variants.{Count, Enumerate, Open, Read, Write, Commit, Close, Delete, Stat, SessionStat, WriteMeta, Refused}
+use Rattle.state.specs.State.{State, Row, Place, slot, flash, Body, InRange, placeOf, inRow, inBody, cell, cell-indep, cell-steady, FitsRow, FitsBody, row-view-fits, body-view-fits}
+use Rattle.state.specs.Words.{ident, blob, inUse, Live}
+use Rattle.state.specs.Soundness.{isSound}
+use Rattle.state.specs.Facts.{Session, Sound}
+use Rattle.state.specs.Agree.{sound-of-test, test-of-sound, apart-blobs}
+use Rattle.rules.specs.Store.{Command, read, write, commit, stat, close, writeMeta, outcome}
+use Rattle.rules.specs.Session.{onPart, onPlace, onRow, Address, by, job, meant, absent, onFound, onSession}
+use Rattle.rules.specs.Respond.{Outcome, answered, respond, silent, jobOutcome}
+use Rattle.rules.specs.Laws.{respond-is, job-is}
+use Rattle.rules.specs.Change.{Proper, put-sound, was}
+use Rattle.guarantees.specs.StorePart.{proper-store}
+use Rattle.guarantees.specs.FlashPart.{proper-flash}
+
+-- ---- events, and the step that they make
+pub data Event : Type 0 where
+  message : ℕ → List ℕ → Event
+  outcome-of : Bool → Event
+
+-- what an event is answered, and what it leaves
+abbrev pub outcomeOn : Event → State → Outcome
+outcomeOn (message t m) s = respond t m s
+outcomeOn (outcome-of good) s = jobOutcome good s
+
+-- code and response bytes, and the state after it
+abbrev pub step : State → Event → Answer × State
+step s e = ((outcomeOn e s .code, outcomeOn e s .response), outcomeOn e s .state)
+
+-- ---- whom an event is for
+-- the command that names a session, or a refusal that needs no state, or something else
+pub data Deed : Type 0 where
+  asks : Address → ℕ → Command → Deed
+  early : ℕ → Deed
+  other : Deed
+
+-- of a decoded message
+abbrev pub deedIn : Request → ℕ → List ℕ → Deed
+deedIn Count t m = other
+deedIn (Enumerate index) t m = other
+deedIn (Open flags b) t m = other
+deedIn (Read session offset n) t m = asks (by session) t (read offset n)
+deedIn (Write session offset start) t m = asks (by session) t (write offset (drop start m))
+deedIn (Commit session len left) t m = asks (by session) t (commit len left)
+deedIn (Close session) t m = asks (by session) t close
+deedIn (Delete b) t m = other
+deedIn (Stat b) t m = other
+deedIn (SessionStat session) t m = asks (by session) t stat
+deedIn (WriteMeta session) t m = asks (by session) t writeMeta
+deedIn (Refused code) t m = early (code .0)
+
+-- of an event
+abbrev pub deed : Event → Deed
+deed (message t m) = deedIn (decoded m) t m
+deed (outcome-of good) = asks job 0 (outcome good)
+
+-- the deed names the session that row i has in the state s, or is refused early and so names none
+abbrev pub Names : State → ℕ → Deed → Type 0
+Names s i (asks (by id) t c) = id ≡ ident i s
+Names s i (asks job t c) = slotCount ≤ blob i s
+Names s i (early code) = Unit {0}
+Names s i other = ⊥
+
+-- the event may stand in the list of the session that row i has in s: a Read, Write, Commit, SessionStat or Close with the identifier that the row has there, also after its Close,
+-- or a job outcome where the row is the flash session, or a message that is refused before its command's own order. It admits two kinds more than document 01 asks for:
+-- WriteMeta with the identifier, and Open, Delete and Stat that are refused for their name's form
+abbrev pub Mine : State → ℕ → Event → Type 0
+Mine s i e = Live i s × Names s i (deed e)
+
+-- ---- what a command does on its own part is proper
+pub proper : (p : Place) (t : ℕ) (c : Command) (r : Row) (b : Body p) → FitsRow r → FitsBody p b → r .used ≡ 1 → Session p r b
+    → Proper p r (onPart p t c r b .1 .0) b (onPart p t c r b .1 .1)
+proper (slot k) t c r b fr fb u ses = proper-store k (fb .0) r b fr (fb .1) u ses t c
+proper flash t c r b fr fb u ses = proper-flash r b fr (fb .0) (fb .1) u ses t c
+
+-- a blob is somewhere
+pub in-range : (b : ℕ) → InRange (placeOf b)
+in-range b = go (ltb b slotCount) refl
+  where
+    go : (y : Bool) → ltb b slotCount ≡ y → InRange (cond y (slot b) flash)
+    go true q = ltb-true b slotCount q
+    go false q = tt
+
+-- what a command does on the part of row i is proper
+pub proper-row : (s : State) → Sound s → (i : ℕ) → Live i s → (t : ℕ) (c : Command)
+    → Proper (placeOf (blob i s)) (inRow i .get s) (onPart (placeOf (blob i s)) t c (inRow i .get s) (inBody (placeOf (blob i s)) .get s) .1 .0) (inBody (placeOf (blob i s)) .get s)
+    (onPart (placeOf (blob i s)) t c (inRow i .get s) (inBody (placeOf (blob i s)) .get s) .1 .1)
+proper-row s g i l t c =
+    proper (placeOf (blob i s)) t c (inRow i .get s) (inBody (placeOf (blob i s)) .get s) (row-view-fits i s (l .0) (g .shape)) (body-view-fits (placeOf (blob i s)) s (in-range (blob i s)) (g .shape)) (l .1) (g .session i l)
+
+-- a command on a live row keeps the state sound
+pub on-row-sound : (s : State) → Sound s → (i : ℕ) → Live i s → (t : ℕ) (c : Command) → Sound (onRow i t c s .1)
+on-row-sound s g i l t c =
+    put-sound s g i l (onPart (placeOf (blob i s)) t c (inRow i .get s) (inBody (placeOf (blob i s)) .get s) .1 .0)
+    (onPart (placeOf (blob i s)) t c (inRow i .get s) (inBody (placeOf (blob i s)) .get s) .1 .1) (proper-row s g i l t c)
+
+-- ---- the deeds as steps, before the soundness test
+abbrev act : Deed → State → Reply × State
+act (asks a t c) s = onSession a t c s
+act (early code) s = (refused code, s)
+act other s = (refused 0, s)
+
+-- a state that came from s₀ by such events
+pub record Since (s₀ s : State) : Type 0 where
+  pub good : Sound s
+  pub from-start : (r : ℕ) → Live r s → Live r s₀
+  pub id-from : (r : ℕ) → Live r s → ident r s ≡ ident r s₀
+  pub blob-from : (r : ℕ) → Live r s → blob r s ≡ blob r s₀
+
+module _ (s₀ : State) (good₀ : Sound s₀) where
+  others-miss : (i : ℕ) (a : Address) (t : ℕ) (c : Command) (s : State) → Live i s₀ → Names s₀ i (asks a t c) → Since s₀ s → (r : ℕ) → r < rowCount → r ≢ i → meant a s r ≡ false
+  others-miss i (by id) t c s li nm since r q n = and-false (inUse r s) (eqb (ident r s) id) (λ (b : inUse r s ≡ true).
+      let l : Live r s = (q, eqb-true (inRow r .get s .used) 1 b) in
+      ne-eqb (ident r s) id (λ (x : ident r s ≡ id). good₀ .ids r i (since .from-start r l) li n (sym (since .id-from r l) ∙ x ∙ nm)))
+  others-miss i job t c s li nm since r q n = and-false (inUse r s) (leb slotCount (blob r s)) (λ (b : inUse r s ≡ true).
+      let l : Live r s = (q, eqb-true (inRow r .get s .used) 1 b) in
+      let d = apart-blobs (blob r s₀) (blob i s₀) (good₀ .spots r i (since .from-start r l) li n) in
+      go (leb slotCount (blob r s)) refl (λ (h : slotCount ≤ blob r s). d .1 (subst (λ (x : ℕ). slotCount ≤ x) (since .blob-from r l) h) nm))
+    where
+      go : (y : Bool) → leb slotCount (blob r s) ≡ y → (slotCount ≤ blob r s → ⊥) → leb slotCount (blob r s) ≡ false
+      go true e f = absurd (f (leb-true _ _ e))
+      go false e f = e
+
+  dead-misses : (i : ℕ) (a : Address) (s : State) → inRow i .get s .used ≢ 1 → meant a s i ≡ false
+  dead-misses i (by id) s h = ap (λ (b : Bool). b && eqb (ident i s) id) (ne-eqb (inRow i .get s .used) 1 h)
+  dead-misses i job s h = ap (λ (b : Bool). b && leb slotCount (blob i s)) (ne-eqb (inRow i .get s .used) 1 h)
+
+  live-hits : (i : ℕ) (a : Address) (t : ℕ) (c : Command) (s : State) → Names s₀ i (asks a t c) → Since s₀ s → Live i s → meant a s i ≡ true
+  live-hits i (by id) t c s nm since l = ap₂ (λ (a b : Bool). a && b) (eq-eqb (inRow i .get s .used) 1 (l .1)) (eq-eqb (ident i s) id (since .id-from i l ∙ sym nm))
+  live-hits i job t c s nm since l =
+      ap₂ (λ (a b : Bool). a && b) (eq-eqb (inRow i .get s .used) 1 (l .1)) (le-leb slotCount (blob i s) (subst (λ (x : ℕ). slotCount ≤ x) (sym (since .blob-from i l)) nm))
+
+  -- what a command does: on its own session's part, or it is refused
+  does-live : (i : ℕ) (a : Address) (t : ℕ) (c : Command) (s : State) → Live i s₀ → Names s₀ i (asks a t c) → Since s₀ s → Live i s → onSession a t c s ≡ onRow i t c s
+  unfolding onSession
+  does-live i a t c s li nm since l =
+      ap (λ (f : Option ℕ). onFound f a t c s) (first-some (meant a s) rowCount i (li .0) (live-hits i a t c s nm since l) (others-miss i a t c s li nm since))
+
+  does-gone : (i : ℕ) (a : Address) (t : ℕ) (c : Command) (s : State) → Live i s₀ → Names s₀ i (asks a t c) → Since s₀ s → inRow i .get s .used ≢ 1 → onSession a t c s ≡ (absent a, s)
+  unfolding onSession
+  does-gone i a t c s li nm since h = ap (λ (f : Option ℕ). onFound f a t c s) (first-none (meant a s) rowCount (λ (r : ℕ) (q : r < rowCount). go r q (ℕ-discrete r i)))
+    where
+      go : (r : ℕ) → r < rowCount → Dec (r ≡ i) → meant a s r ≡ false
+      go r q (yes e) = rw e (dead-misses i a s h)
+      go r q (no n) = others-miss i a t c s li nm since r q n
+
+  -- the session's part decides
+  abbrev Part : ℕ → Type 0
+  Part i = Row × Body (placeOf (blob i s₀))
+
+  abbrev view : (i : ℕ) → State → Part i
+  view i s = cell i (placeOf (blob i s₀)) .get s
+
+  abbrev within : (i : ℕ) → Deed → Part i → Reply × Part i
+  within i (asks a t c) x = cond (eqb (x .0 .used) 1) (onPart (placeOf (blob i s₀)) t c (x .0) (x .1)) (absent a, x)
+  within i (early code) x = (refused code, x)
+  within i other x = (refused 0, x)
+
+  abbrev back : (i : ℕ) → State → Reply × Part i → Reply × State
+  back i s o = (o .0, cell i (placeOf (blob i s₀)) .put (o .1) s)
+
+  inside : (i : ℕ) (d : Deed) (s : State) → Live i s₀ → Names s₀ i d → Since s₀ s → act d s ≡ back i s (within i d (view i s))
+  inside i (asks a t c) s li nm since = go (ℕ-discrete (inRow i .get s .used) 1)
+    where
+      choice : Bool → Reply × State
+      choice y = back i s (cond y (onPart (placeOf (blob i s₀)) t c (view i s .0) (view i s .1)) (absent a, view i s))
+
+      go : Dec (inRow i .get s .used ≡ 1) → onSession a t c s ≡ choice (eqb (inRow i .get s .used) 1)
+      go (yes h) =
+          let l : Live i s = (li .0, h) in
+          does-live i a t c s li nm since l ∙ ap (λ (b : ℕ). onPlace (placeOf b) i t c s) (since .blob-from i l) ∙ sym (ap choice (eq-eqb (inRow i .get s .used) 1 h))
+      go (no h) =
+          does-gone i a t c s li nm since h ∙ sym (ap (λ (x : State). (absent a, x)) (cell-steady i (placeOf (blob i s₀)) s)) ∙ sym (ap choice (ne-eqb (inRow i .get s .used) 1 h))
+  inside i (early code) s li nm since = sym (ap (λ (x : State). (refused code, x)) (cell-steady i (placeOf (blob i s₀)) s))
+  inside i other s li nm since = absurd nm
+
+  goes-on : (i : ℕ) (t : ℕ) (c : Command) (s : State) → Since s₀ s → Live i s → Since s₀ (onRow i t c s .1)
+  goes-on i t c s since l =
+      let w = placeOf (blob i s) in
+      let o = onPart w t c (inRow i .get s) (inBody w .get s) in
+      let g = since .good in
+      let pr = proper-row s g i l t c in
+      let back-to = was s g i l (o .1 .0) (o .1 .1) pr in
+      record {
+        good = on-row-sound s g i l t c;
+        from-start = λ (r : ℕ) (x : Live r (onRow i t c s .1)). since .from-start r (back-to r x .was-live);
+        id-from = λ (r : ℕ) (x : Live r (onRow i t c s .1)). back-to r x .same-id ∙ since .id-from r (back-to r x .was-live);
+        blob-from = λ (r : ℕ) (x : Live r (onRow i t c s .1)). back-to r x .same-blob ∙ since .blob-from r (back-to r x .was-live);
+      }
+
+  remains : (i : ℕ) (d : Deed) (s : State) → Live i s₀ → Names s₀ i d → Since s₀ s → Since s₀ (act d s .1)
+  remains i (asks a t c) s li nm since = go (ℕ-discrete (inRow i .get s .used) 1)
+    where
+      go : Dec (inRow i .get s .used ≡ 1) → Since s₀ (onSession a t c s .1)
+      go (yes h) = subst (λ (x : Reply × State). Since s₀ (x .1)) (sym (does-live i a t c s li nm since (li .0, h))) (goes-on i t c s since (li .0, h))
+      go (no h) = subst (λ (x : Reply × State). Since s₀ (x .1)) (sym (does-gone i a t c s li nm since h)) since
+  remains i (early code) s li nm since = since
+  remains i other s li nm since = absurd nm
+
+  -- the answer as bytes
+  abbrev say : Event → Reply → Answer
+  say (message t m) r = framed (numberOf (decoded m)) r
+  say (outcome-of good) r = silent r
+
+  abbrev plain : State → Event → Answer × State
+  plain s e = (say e (act (deed e) s .0), act (deed e) s .1)
+
+  plain-apart : Apart plain (Since s₀) (Mine s₀)
+  plain-apart = local-apart plain (Since s₀) (Mine s₀) Part (λ (i : ℕ). cell i (placeOf (blob i s₀))) (record {
+    stays = λ (i : ℕ) (e : Event) (s : State) (o : Mine s₀ i e) (since : Since s₀ s). remains i (deed e) s (o .0) (o .1) since;
+    disjoint = λ (i j : ℕ) (a b : Event) (n : i ≢ j) (x : Mine s₀ i a) (y : Mine s₀ j b). cell-indep i j (placeOf (blob i s₀)) (placeOf (blob j s₀)) n (good₀ .spots i j (x .0) (y .0) n);
+    reply = λ (i : ℕ) (e : Event) (c : Part i). say e (within i (deed e) c .0);
+    act = λ (i : ℕ) (e : Event) (c : Part i). within i (deed e) c .1;
+    inside = λ (i : ℕ) (e : Event) (s : State) (o : Mine s₀ i e) (since : Since s₀ s). ap (λ (x : Reply × State). (say e (x .0), x .1)) (inside i (deed e) s (o .0) (o .1) since);
+  })
+
+  -- the rules do this
+  message-is : (q : Request) (i : ℕ) (t : ℕ) (m : List ℕ) (s : State) → Names s₀ i (deedIn q t m) → answered q t m s ≡ act (deedIn q t m) s
+  unfolding answered
+  message-is Count i t m s nm = absurd nm
+  message-is (Enumerate index) i t m s nm = absurd nm
+  message-is (Open flags b) i t m s nm = absurd nm
+  message-is (Read session offset n) i t m s nm = refl
+  message-is (Write session offset start) i t m s nm = refl
+  message-is (Commit session len left) i t m s nm = refl
+  message-is (Close session) i t m s nm = refl
+  message-is (Delete b) i t m s nm = absurd nm
+  message-is (Stat b) i t m s nm = absurd nm
+  message-is (SessionStat session) i t m s nm = refl
+  message-is (WriteMeta session) i t m s nm = refl
+  message-is (Refused code) i t m s nm = refl
+
+  abbrev told : Outcome → Answer × State
+  told o = ((o .code, o .response), o .state)
+
+  step-is : (i : ℕ) (e : Event) (s : State) → Mine s₀ i e → Since s₀ s → step s e ≡ plain s e
+  step-is i (message t m) s o since =
+      ap told (respond-is t m s (test-of-sound s (since .good))) ∙ ap (λ (x : Reply × State). (framed (numberOf (decoded m)) (x .0), x .1)) (message-is (decoded m) i t m s (o .1))
+  step-is i (outcome-of good) s o since = ap told (job-is good s (test-of-sound s (since .good)))
+
+  step-apart : Apart step (Since s₀) (Mine s₀)
+  step-apart = apart-same plain step (Since s₀) (Mine s₀) step-is plain-apart
+
+  start : Since s₀ s₀
+  start = record { good = good₀; from-start = λ (r : ℕ) (l : Live r s₀). l; id-from = λ (r : ℕ) (l : Live r s₀). refl; blob-from = λ (r : ℕ) (l : Live r s₀). refl }
+
+-- TWO SESSIONS: any merge of their lists does what the lists do whole, one after the other, in either order
+pub merge-two : (s : State) → isSound s ≡ true → (i j : ℕ) (xs ys : List Event) (zs : List (ℕ × Event)) → i ≢ j → All (Mine s i) xs → All (Mine s j) ys → Merge i j xs ys zs
+    → Same step s zs (tag i xs ++ tag j ys) × Same step s zs (tag j ys ++ tag i xs)
+merge-two s h i j xs ys zs n a b m =
+    let g = sound-of-test s h in
+    two step (Since s) (Mine s) (step-apart s g) i j xs ys zs s n (start s g) a b m
+
+-- ANY NUMBER OF SESSIONS: any merge of their lists does what the lists do whole, one after the other, in any order `os` that names each list once;
+-- and each list is answered as it is when it runs alone
+pub merge-all : (s : State) → isSound s ≡ true → (lists : ℕ → List Event) (zs : List (ℕ × Event)) (os : List ℕ) → ((i : ℕ) → All (Mine s i) (lists i)) → Merges lists zs
+    → ((i : ℕ) → lists i ≢ [] → times i os ≡ 1)
+    → Same step s zs (whole lists os) × ((i : ℕ) → of i (answers step s zs) ≡ alone step s (lists i))
+merge-all s h lists zs os own m once =
+    let g = sound-of-test s h in
+    family step (Since s) (Mine s) (step-apart s g) lists zs os s (start s g) own m once

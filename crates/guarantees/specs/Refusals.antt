@@ -1,0 +1,297 @@
+-- A refusal leaves the state as found and writes no response; a refused Open keeps the sweep. Assumes nothing.
+use mathlib.Core.Path.{_≡_, refl, _∙_, ap}
+use mathlib.Core.Logic.{_≢_}
+use mathlib.Core.Bool.{Bool, true, false, cond}
+use mathlib.Core.Option.{Option, none, some}
+use mathlib.Core.List.{List, [], _∷_}
+use Prim.Native.Nat.{ℕ, _+_, _≤_}
+use lib.Dec.{eqb}
+use lib.ListN.{length}
+use Rattle.laws.specs.Find.{first}
+use Rattle.laws.specs.Ranges.{part}
+use Rattle.protocol.specs.Numbers.{notFound, invalid, rowCount, slotSize, imageSize, hashSize, success, running, readOnly, writeOnly}
+use Rattle.protocol.specs.Names.{kindOf, flashNumber}
+use Rattle.protocol.specs.Decode.{decoded, numberOf}
+use Rattle.protocol.specs.Frame.{Reply, refused, done, reply, framed}
+use Rattle.protocol.specs.declared.FlashKind.{FlashKind}
+use Rattle.protocol.specs.declared.FlashKind.the-variants.{Image, Hash, Verify, Update, Cleanup}
+use Rattle.protocol.specs.declared.Blob.{Blob}
+use Rattle.protocol.specs.declared.Blob.the-variants.{Store, Flash, Base, Unknown}
+use Rattle.protocol.specs.declared.Request.{Request}
+use Rattle.protocol.specs.declared.Request.the-variants.{Count, Enumerate, Open, Read, Write, Commit, Close, Delete, Stat, SessionStat, WriteMeta, Refused}
+use Rattle.state.specs.State.{State, Row, Slot, Flash as FlashBody, Place, slot, flash, Body, placeOf, inRow, inBody, cell, cell-steady}
+use Rattle.state.specs.Words.{blobOf, statusOf, writes, blob}
+use Rattle.state.specs.Soundness.{isSound}
+use Rattle.rules.specs.Store.{Command, read, write, commit, stat, close, writeMeta, outcome, commitFits, readStore, stored, writeStore, commitWriting, commitStore, onStore}
+use Rattle.rules.specs.Flash.{writeFlash, startable, verifyJob, updateJob, commitKind, commitFlash, closeFlash, jobEnds, onFlash}
+use Rattle.rules.specs.Session.{onPart, onPlace, Address, job, meant, onFound, onSession}
+use Rattle.rules.specs.Sweep.{swept}
+use Rattle.rules.specs.Open.{slotNamed, rowOn, freeRowIn, freeSlotIn, opened, openNew, openFree, openHeld, openNamed, storeFlags, openStore, flashListed, openFlashFree, openFlashQuiet, openFlashListed, flashFlags, openFlash, openBlob, deleteQuiet, deleteNamed, deleteBlob}
+use Rattle.rules.specs.Respond.{Outcome, outcomeOf, unsound, answered, respond, silent, jobOutcome}
+use Rattle.rules.specs.Laws.{cond-has, placed-has}
+
+-- what a refusal leaves as found
+abbrev Refusal : Reply → Type 0
+Refusal (refused code) = Unit {0}
+Refusal done = ⊥
+Refusal (reply f) = ⊥
+
+abbrev Keeps : {S : Type 0} → S → Reply × S → Type 0
+Keeps s o = Refusal (o .0) → o .1 ≡ s
+
+-- ---- a store session's part
+module _ (r : Row) (b : Slot) where
+  keep-stored : (ws : List ℕ) (t i : ℕ) → Keeps (r, b) (stored ws t i r b)
+  unfolding stored
+  keep-stored [] t i h = absurd h
+  keep-stored (w ∷ ws) t i h = absurd h
+
+  keep-write : (y : Bool) (ws : List ℕ) (t i : ℕ) → Keeps (r, b) (writeStore y ws t i r b)
+  unfolding writeStore
+  keep-write true ws t i =
+      placed-has slotSize (b .stagedLen) i (length ws) r b (stored ws t i r b) (Keeps (r, b)) (λ (h : i ≤ b .stagedLen) (l : i + length ws ≤ slotSize). keep-stored ws t i) (λ (code : ℕ) h. refl)
+  keep-write false ws t i = λ h. refl
+
+  keep-writing : (y : Bool) (t : ℕ) → Keeps (r, b) (commitWriting y t r b)
+  unfolding commitWriting
+  keep-writing true t = λ h. absurd h
+  keep-writing false t = λ h. refl
+
+  keep-commit : (y : Bool) (t : ℕ) → Keeps (r, b) (commitStore y t r b)
+  unfolding commitStore
+  keep-commit true t = keep-writing (writes r) t
+  keep-commit false t = λ h. refl
+
+  keep-read : (y : Bool) (t i n : ℕ) → Keeps (r, b) (readStore y t i n r b)
+  unfolding readStore
+  keep-read y t i n h = absurd h
+
+  keep-store : (t : ℕ) (c : Command) → Keeps (r, b) (onStore t c r b)
+  unfolding onStore
+  keep-store t (read i n) = keep-read (writes r) t i n
+  keep-store t (write i ws) = keep-write (writes r) ws t i
+  keep-store t (commit n l) = keep-commit (commitFits n l) t
+  keep-store t stat = λ h. absurd h
+  keep-store t close = λ h. absurd h
+  keep-store t writeMeta = λ h. refl
+  keep-store t (outcome g) = λ h. refl
+
+-- ---- the flash session's part
+module _ (r : Row) (b : FlashBody) where
+  keep-flash-write : (k : FlashKind) (ws : List ℕ) (t i : ℕ) → Keeps (r, b) (writeFlash k ws t i r b)
+  unfolding writeFlash
+  keep-flash-write Image ws t i = placed-has imageSize (b .imageLen) i (length ws) r b _ (Keeps (r, b)) (λ (h : i ≤ b .imageLen) (l : i + length ws ≤ imageSize) x. absurd x) (λ (code : ℕ) h. refl)
+  keep-flash-write Hash ws t i = placed-has hashSize (b .hashLen) i (length ws) r b _ (Keeps (r, b)) (λ (h : i ≤ b .hashLen) (l : i + length ws ≤ hashSize) x. absurd x) (λ (code : ℕ) h. refl)
+  keep-flash-write Verify ws t i = λ h. refl
+  keep-flash-write Update ws t i = λ h. refl
+  keep-flash-write Cleanup ws t i = λ h. refl
+
+  keep-verify : (y : Bool) (t : ℕ) → Keeps (r, b) (verifyJob y t r b)
+  unfolding verifyJob
+  keep-verify true t = λ h. absurd h
+  keep-verify false t = λ h. absurd h
+
+  keep-update : (y : Bool) (t : ℕ) → Keeps (r, b) (updateJob y t r b)
+  unfolding updateJob
+  keep-update true t = λ h. absurd h
+  keep-update false t = λ h. absurd h
+
+  keep-kind : (k : FlashKind) (t : ℕ) → Keeps (r, b) (commitKind k t r b)
+  unfolding commitKind
+  keep-kind Image t = λ h. refl
+  keep-kind Hash t = λ h. refl
+  keep-kind Verify t = keep-verify (startable r) t
+  keep-kind Update t = keep-update (startable r) t
+  keep-kind Cleanup t = λ h. absurd h
+
+  keep-flash-commit : (y : Bool) (k : FlashKind) (t : ℕ) → Keeps (r, b) (commitFlash y k t r b)
+  unfolding commitFlash
+  keep-flash-commit true k t = keep-kind k t
+  keep-flash-commit false k t = λ h. refl
+
+  keep-flash-close : (y : Bool) (k : FlashKind) → Keeps (r, b) (closeFlash y k r b)
+  unfolding closeFlash
+  keep-flash-close true k = λ h. refl
+  keep-flash-close false k = λ h. absurd h
+
+  keep-job : (y g : Bool) → Keeps (r, b) (jobEnds y g r b)
+  unfolding jobEnds
+  keep-job true g = λ h. absurd h
+  keep-job false g = λ h. refl
+
+  keep-flash : (k : FlashKind) (t : ℕ) (c : Command) → Keeps (r, b) (onFlash k t c r b)
+  unfolding onFlash
+  keep-flash k t (read i n) = λ h. refl
+  keep-flash k t (write i ws) = keep-flash-write k ws t i
+  keep-flash k t (commit n l) = keep-flash-commit (commitFits n l) k t
+  keep-flash k t stat = λ h. absurd h
+  keep-flash k t close = keep-flash-close (eqb (statusOf r) running) k
+  keep-flash k t writeMeta = λ h. refl
+  keep-flash k t (outcome g) = keep-job (eqb (statusOf r) running) g
+
+keep-part : (p : Place) (t : ℕ) (c : Command) (r : Row) (b : Body p) → Keeps (r, b) (onPart p t c r b)
+keep-part (slot k) t c r b = keep-store r b t c
+keep-part flash t c r b = keep-flash r b (kindOf (blobOf r)) t c
+
+-- ---- the state
+keep-place : (p : Place) (r t : ℕ) (c : Command) (s : State) → Keeps s (onPlace p r t c s)
+keep-place p r t c s h = ap (λ (x : Row × Body p). cell r p .put x s) (keep-part p t c (inRow r .get s) (inBody p .get s) h) ∙ cell-steady r p s
+
+keep-found : (o : Option ℕ) (a : Address) (t : ℕ) (c : Command) (s : State) → Keeps s (onFound o a t c s)
+keep-found none a t c s h = refl
+keep-found (some r) a t c s h = keep-place (placeOf (blob r s)) r t c s h
+
+keep-session : (a : Address) (t : ℕ) (c : Command) (s : State) → Keeps s (onSession a t c s)
+unfolding onSession
+keep-session a t c s = keep-found (first (meant a s) rowCount) a t c s
+
+keep-opened : (p : Place) (r b flags clean t : ℕ) (body : Body p) (s : State) → Keeps s (opened p r b flags clean t body s)
+unfolding opened
+keep-opened p r b flags clean t body s h = absurd h
+
+keep-new : (o j : Option ℕ) (n : List ℕ) (flags t : ℕ) (s : State) → Keeps s (openNew o j n flags t s)
+keep-new none j n flags t s = λ h. refl
+keep-new (some r) none n flags t s = λ h. refl
+keep-new (some r) (some k) n flags t s = keep-opened (slot k) r k flags 0 t _ s
+
+keep-free : (o : Option ℕ) (k flags t : ℕ) (s : State) → Keeps s (openFree o k flags t s)
+keep-free none k flags t s = λ h. refl
+keep-free (some r) k flags t s = keep-opened (slot k) r k flags 1 t _ s
+
+keep-held : (o : Option ℕ) (k flags t : ℕ) (s : State) → Keeps s (openHeld o k flags t s)
+keep-held none k flags t s = keep-free (freeRowIn s) k flags t s
+keep-held (some q) k flags t s = λ h. refl
+
+keep-named : (o : Option ℕ) (n : List ℕ) (flags t : ℕ) (s : State) → Keeps s (openNamed o n flags t s)
+keep-named none n flags t s = cond-has (Keeps s) (eqb flags readOnly) (refused notFound, s) (openNew (freeRowIn s) (freeSlotIn s) n flags t s) (λ h. refl) (keep-new (freeRowIn s) (freeSlotIn s) n flags t s)
+keep-named (some k) n flags t s = keep-held (rowOn k s) k flags t s
+
+keep-open-store : (n : List ℕ) (flags t : ℕ) (s : State) → Keeps s (openStore n flags t s)
+unfolding openStore
+keep-open-store n flags t s =
+    cond-has (Keeps s) (storeFlags flags) (openNamed (slotNamed n s) n flags t s) (refused invalid, s) (keep-named (slotNamed n s) n flags t s) (λ h. refl)
+
+keep-flash-free : (o : Option ℕ) (k : FlashKind) (t : ℕ) (s : State) → Keeps s (openFlashFree o k t s)
+keep-flash-free none k t s = λ h. refl
+keep-flash-free (some r) k t s = keep-opened flash r (flashNumber k) writeOnly 0 t _ s
+
+keep-flash-quiet : (o : Option ℕ) (k : FlashKind) (t : ℕ) (s : State) → Keeps s (openFlashQuiet o k t s)
+keep-flash-quiet none k t s = keep-flash-free (freeRowIn s) k t s
+keep-flash-quiet (some q) k t s = λ h. refl
+
+keep-flash-listed : (y : Bool) (k : FlashKind) (t : ℕ) (s : State) → Keeps s (openFlashListed y k t s)
+keep-flash-listed true k t s = keep-flash-quiet (first (meant job s) rowCount) k t s
+keep-flash-listed false k t s = λ h. refl
+
+keep-open-flash : (k : FlashKind) (flags t : ℕ) (s : State) → Keeps s (openFlash k flags t s)
+unfolding openFlash
+keep-open-flash k flags t s =
+    cond-has (Keeps s) (flashFlags flags) (openFlashListed (flashListed k (s .flashGroup .phase)) k t s) (refused invalid, s) (keep-flash-listed (flashListed k (s .flashGroup .phase)) k t s) (λ h. refl)
+
+keep-open : (b : Blob) (flags t : ℕ) (m : List ℕ) (s : State) → Keeps s (openBlob b flags t m s)
+unfolding openBlob
+keep-open (Store at len) flags t m s = keep-open-store (part at len m) flags t s
+keep-open (Flash k) flags t m s = keep-open-flash k flags t s
+keep-open Base flags t m s = λ h. refl
+keep-open Unknown flags t m s = λ h. refl
+
+keep-delete-quiet : (o : Option ℕ) (k : ℕ) (s : State) → Keeps s (deleteQuiet o k s)
+keep-delete-quiet none k s = λ h. absurd h
+keep-delete-quiet (some q) k s = λ h. refl
+
+keep-delete-named : (o : Option ℕ) (s : State) → Keeps s (deleteNamed o s)
+keep-delete-named none s = λ h. refl
+keep-delete-named (some k) s = keep-delete-quiet (rowOn k s) k s
+
+keep-delete : (b : Blob) (m : List ℕ) (s : State) → Keeps s (deleteBlob b m s)
+unfolding deleteBlob
+keep-delete (Store at len) m s = keep-delete-named (slotNamed (part at len m) s) s
+keep-delete (Flash k) m s = λ h. refl
+keep-delete Base m s = λ h. refl
+keep-delete Unknown m s = λ h. refl
+
+-- the state as a refusal of the request q leaves it: as found, but for Open, which has swept
+abbrev pub leftBy : Request → ℕ → State → State
+leftBy Count t s = s
+leftBy (Enumerate index) t s = s
+leftBy (Open flags b) t s = swept t s
+leftBy (Read session offset n) t s = s
+leftBy (Write session offset start) t s = s
+leftBy (Commit session len left) t s = s
+leftBy (Close session) t s = s
+leftBy (Delete b) t s = s
+leftBy (Stat b) t s = s
+leftBy (SessionStat session) t s = s
+leftBy (WriteMeta session) t s = s
+leftBy (Refused code) t s = s
+
+keep-answered : (q : Request) (t : ℕ) (m : List ℕ) (s : State) → Keeps (leftBy q t s) (answered q t m s)
+unfolding answered
+keep-answered Count t m s = λ h. refl
+keep-answered (Enumerate index) t m s = λ h. refl
+keep-answered (Open flags b) t m s = keep-open b flags t m (swept t s)
+keep-answered (Read session offset n) t m s = keep-session _ t _ s
+keep-answered (Write session offset start) t m s = keep-session _ t _ s
+keep-answered (Commit session len left) t m s = keep-session _ t _ s
+keep-answered (Close session) t m s = keep-session _ t _ s
+keep-answered (Delete b) t m s = keep-delete b m s
+keep-answered (Stat b) t m s = λ h. refl
+keep-answered (SessionStat session) t m s = keep-session _ t _ s
+keep-answered (WriteMeta session) t m s = keep-session _ t _ s
+keep-answered (Refused code) t m s = λ h. refl
+
+-- ---- codes
+refused-frame : (sub : ℕ) (x : Reply) → framed sub x .0 ≢ success → Refusal x × (framed sub x .1 ≡ [])
+unfolding framed
+refused-frame sub (refused c) h = (tt, refl)
+refused-frame sub done h = absurd (h refl)
+refused-frame sub (reply f) h = absurd (h refl)
+
+refused-silent : (x : Reply) → silent x .0 ≢ success → Refusal x
+unfolding silent
+refused-silent (refused c) h = tt
+refused-silent done h = absurd (h refl)
+refused-silent (reply f) h = absurd (h refl)
+
+-- a job outcome has no response
+pub silent-nothing : (x : Reply) → silent x .1 ≡ []
+unfolding silent
+silent-nothing (refused c) = refl
+silent-nothing done = refl
+silent-nothing (reply f) = refl
+
+-- what a refusal leaves
+pub record Nothing (o : Outcome) (s : State) : Type 0 where
+  pub no-response : o .response ≡ []
+  pub as-found : o .state ≡ s
+
+-- where the state is not sound, nothing is done
+abbrev pub leftIn : Bool → Request → ℕ → State → State
+leftIn true q t s = leftBy q t s
+leftIn false q t s = s
+
+-- A REFUSED MESSAGE CHANGES NOTHING AND WRITES NO RESPONSE, BUT FOR OPEN'S SWEEP
+pub refused-message : (t : ℕ) (m : List ℕ) (s : State) → respond t m s .code ≢ success → Nothing (respond t m s) (leftIn (isSound s) (decoded m) t s)
+unfolding respond
+refused-message t m s = go (isSound s)
+  where
+    full : Outcome
+    full = outcomeOf (framed (numberOf (decoded m)) (answered (decoded m) t m s .0)) (answered (decoded m) t m s .1)
+
+    go : (y : Bool) → cond y full (unsound s) .code ≢ success → Nothing (cond y full (unsound s)) (leftIn y (decoded m) t s)
+    go true h =
+        let f = refused-frame (numberOf (decoded m)) (answered (decoded m) t m s .0) h in
+        record { no-response = f .1; as-found = keep-answered (decoded m) t m s (f .0) }
+    go false h = record { no-response = refl; as-found = refl }
+
+-- A REFUSED JOB OUTCOME CHANGES NOTHING
+pub refused-job : (good : Bool) (s : State) → jobOutcome good s .code ≢ success → Nothing (jobOutcome good s) s
+unfolding jobOutcome
+refused-job good s = go (isSound s)
+  where
+    full : Outcome
+    full = outcomeOf (silent (onSession job 0 (outcome good) s .0)) (onSession job 0 (outcome good) s .1)
+
+    go : (y : Bool) → cond y full (unsound s) .code ≢ success → Nothing (cond y full (unsound s)) s
+    go true h = record { no-response = silent-nothing (onSession job 0 (outcome good) s .0); as-found = keep-session job 0 (outcome good) s (refused-silent (onSession job 0 (outcome good) s .0) h) }
+    go false h = record { no-response = refl; as-found = refl }

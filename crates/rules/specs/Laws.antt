@@ -1,0 +1,81 @@
+-- What the cabinet does in a sound state, and the ways through Write's checks. Assumes nothing.
+use mathlib.Core.Path.{_≡_, refl, _∙_, ap}
+use mathlib.Core.Bool.{Bool, true, false, cond}
+use mathlib.Core.List.{List}
+use Prim.Native.Nat.{ℕ, _+_, _≤_, _<_}
+use lib.Dec.{leb}
+use borrow.Author.Tests.{leb-true, le-leb, lt-leb}
+use Rattle.protocol.specs.Numbers.{tooLong, outOfRange}
+use Rattle.protocol.specs.Decode.{decoded, numberOf}
+use Rattle.protocol.specs.Frame.{framed}
+use Rattle.state.specs.State.{State, Row, inRow, placeOf, cell-row-other, inBody, cell, table-kept}
+use Rattle.state.specs.Soundness.{isSound}
+use Rattle.rules.specs.Store.{outcome, Out, refuse, placed, Command}
+use Rattle.rules.specs.Session.{job, onSession, onRow, onPart}
+use Rattle.rules.specs.Respond.{outcomeOf, unsound, answered, respond, silent, jobOutcome}
+use mathlib.Core.Logic.{_≢_}
+use Rattle.state.specs.Words.{blob}
+use lib.ListN.{length}
+
+-- a message in a sound state
+pub respond-is : (t : ℕ) (m : List ℕ) (s : State) → isSound s ≡ true → respond t m s ≡ outcomeOf (framed (numberOf (decoded m)) (answered (decoded m) t m s .0)) (answered (decoded m) t m s .1)
+unfolding respond
+respond-is t m s h =
+    ap (λ (y : Bool). cond y (outcomeOf (framed (numberOf (decoded m)) (answered (decoded m) t m s .0)) (answered (decoded m) t m s .1)) (unsound s)) h
+
+-- a job outcome in a sound state
+pub job-is : (good : Bool) (s : State) → isSound s ≡ true → jobOutcome good s ≡ outcomeOf (silent (onSession job 0 (outcome good) s .0)) (onSession job 0 (outcome good) s .1)
+unfolding jobOutcome
+job-is good s h = ap (λ (y : Bool). cond y (outcomeOf (silent (onSession job 0 (outcome good) s .0)) (onSession job 0 (outcome good) s .1)) (unsound s)) h
+
+-- what holds of both ways holds of a choice
+pub cond-has : {A : Type 0} (P : A → Type 0) (y : Bool) (a b : A) → P a → P b → P (cond y a b)
+cond-has P true a b x z = x
+cond-has P false a b x z = z
+
+-- ---- Write's checks, for a store slot, the image and the hash alike
+module _ {B : Type 0} (capacity len offset n : ℕ) (r : Row) (b : B) (accepted : Out B) where
+  -- what holds of the accepted write and of every refusal holds of a Write
+  pub placed-has : (P : Out B → Type 0) → (offset ≤ len → offset + n ≤ capacity → P accepted) → ((code : ℕ) → P (refuse code r b)) → P (placed capacity len offset n r b accepted)
+  unfolding placed
+  placed-has P ok bad = go (leb offset len) refl (leb (offset + n) capacity) refl
+    where
+      go : (x : Bool) → leb offset len ≡ x → (y : Bool) → leb (offset + n) capacity ≡ y → P (cond x (cond y accepted (refuse tooLong r b)) (refuse outOfRange r b))
+      go true p true q = ok (leb-true offset len p) (leb-true (offset + n) capacity q)
+      go true p false q = bad tooLong
+      go false p y q = bad outOfRange
+
+  -- "offset above length (C9)"
+  pub placed-beyond : len < offset → placed capacity len offset n r b accepted ≡ refuse outOfRange r b
+  unfolding placed
+  placed-beyond h = ap (λ (x : Bool). cond x (cond (leb (offset + n) capacity) accepted (refuse tooLong r b)) (refuse outOfRange r b)) (lt-leb offset len h)
+
+  inside : (y : Bool) → offset ≤ len → leb (offset + n) capacity ≡ y → placed capacity len offset n r b accepted ≡ cond y accepted (refuse tooLong r b)
+  unfolding placed
+  inside y h q =
+      ap (λ (x : Bool). cond x (cond (leb (offset + n) capacity) accepted (refuse tooLong r b)) (refuse outOfRange r b)) (le-leb offset len h)
+      ∙ ap (λ (x : Bool). cond x accepted (refuse tooLong r b)) q
+
+  -- "end above capacity (C8)"
+  pub placed-over : offset ≤ len → capacity < offset + n → placed capacity len offset n r b accepted ≡ refuse tooLong r b
+  placed-over h l = inside false h (lt-leb (offset + n) capacity l)
+
+  -- else it is accepted
+  pub placed-fits : offset ≤ len → offset + n ≤ capacity → placed capacity len offset n r b accepted ≡ accepted
+  placed-fits h l = inside true h (le-leb (offset + n) capacity l)
+
+-- ---- a command on an open session
+-- A COMMAND IS DECIDED BY ITS CLOCK AND ITS OWN ROW AND BODY, AND CHANGES THEM ONLY
+pub by-own-part : (i t : ℕ) (c : Command) (s : State)
+    → onRow i t c s .1 ≡ cell i (placeOf (blob i s)) .put (onPart (placeOf (blob i s)) t c (inRow i .get s) (inBody (placeOf (blob i s)) .get s) .1) s
+by-own-part i t c s = refl
+
+-- so it leaves every other row
+pub other-rows : (i q t : ℕ) (c : Command) (s : State) → i ≢ q → inRow q .get (onRow i t c s .1) ≡ inRow q .get s
+other-rows i q t c s n =
+    ap (λ (y : State). inRow q .get y) (by-own-part i t c s) ∙ cell-row-other i q (placeOf (blob i s)) (onPart (placeOf (blob i s)) t c (inRow i .get s) (inBody (placeOf (blob i s)) .get s) .1) s n
+
+-- and the length of the table
+pub table-after : (i t : ℕ) (c : Command) (s : State) → length (onRow i t c s .1 .sessions .table) ≡ length (s .sessions .table)
+table-after i t c s =
+    ap (λ (y : State). length (y .sessions .table)) (by-own-part i t c s) ∙ table-kept i (placeOf (blob i s)) (onPart (placeOf (blob i s)) t c (inRow i .get s) (inBody (placeOf (blob i s)) .get s) .1) s

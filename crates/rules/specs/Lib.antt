@@ -1,0 +1,17 @@
+pub mod Store
+pub mod Flash
+pub mod Session
+pub mod Sweep
+pub mod Open
+pub mod Listing
+pub mod Respond
+pub mod Laws
+pub mod Change
+pub mod Searches
+pub mod Identifiers
+pub mod Messages
+pub mod Situations
+pub mod Sweeping
+pub mod Examples
+pub mod Counting
+pub mod Excluded

@@ -1,0 +1,76 @@
+-- What the cabinet does with a message, and with a job outcome.
+use mathlib.Core.Bool.{Bool, true, false, cond}
+use mathlib.Core.List.{List, [], _∷_}
+use Prim.Native.Nat.{ℕ}
+use lib.Dec.{eqb}
+use lib.ListN.{length, drop}
+use Rattle.protocol.specs.Numbers.{success, notSound, answerSize}
+use Rattle.protocol.specs.Decode.{decoded, numberOf}
+use Rattle.protocol.specs.Frame.{Reply, refused, done, reply, Answer, framed, laid}
+use Rattle.protocol.specs.declared.Request.{Request}
+use Rattle.protocol.specs.declared.Request.the-variants.{Count, Enumerate, Open, Read, Write, Commit, Close, Delete, Stat, SessionStat, WriteMeta, Refused}
+use Rattle.state.specs.State.{State}
+use Rattle.state.specs.Soundness.{isSound}
+use Rattle.rules.specs.Store.{read, write, commit, stat, close, writeMeta, outcome}
+use Rattle.rules.specs.Session.{by, job, onSession}
+use Rattle.rules.specs.Sweep.{swept}
+use Rattle.rules.specs.Open.{openBlob, deleteBlob, statBlob}
+use Rattle.rules.specs.Listing.{counted, enumerated}
+
+-- the completion code, the response's bytes, and the state after it
+pub record Outcome : Type 0 where
+  pub code : ℕ
+  pub response : List ℕ
+  pub state : State
+
+abbrev pub outcomeOf : Answer → State → Outcome
+outcomeOf a s = record { code = a .0; response = a .1; state = s }
+
+-- each command; t is the clock and m the message, where Write's bytes and the names stand
+unfoldable pub answered : Request → ℕ → List ℕ → State → Reply × State
+answered Count t m s = (counted s, s)
+answered (Enumerate index) t m s = (enumerated index s, s)
+answered (Open flags blob) t m s = openBlob blob flags t m (swept t s)
+answered (Read session offset count) t m s = onSession (by session) t (read offset count) s
+answered (Write session offset start) t m s = onSession (by session) t (write offset (drop start m)) s
+answered (Commit session length left) t m s = onSession (by session) t (commit length left) s
+answered (Close session) t m s = onSession (by session) t close s
+answered (Delete blob) t m s = deleteBlob blob m s
+answered (Stat blob) t m s = (statBlob blob m s, s)
+answered (SessionStat session) t m s = onSession (by session) t stat s
+answered (WriteMeta session) t m s = onSession (by session) t writeMeta s
+answered (Refused code) t m s = (refused (code .0), s)
+
+-- "FF: state not sound", before all else; a refusal leaves the state
+abbrev pub unsound : State → Outcome
+unsound s = outcomeOf (notSound, []) s
+
+-- a message at the clock t
+unfoldable pub respond : ℕ → List ℕ → State → Outcome
+respond t m s = cond (isSound s) (outcomeOf (framed (numberOf (decoded m)) (answered (decoded m) t m s .0)) (answered (decoded m) t m s .1)) (unsound s)
+
+-- "code 00, no response"
+unfoldable pub silent : Reply → Answer
+silent (refused code) = (code, [])
+silent done = (success, [])
+silent (reply f) = (success, [])
+
+-- a job outcome, good or failed; it has no clock, and no stamp changes
+unfoldable pub jobOutcome : Bool → State → Outcome
+jobOutcome good s = cond (isSound s) (outcomeOf (silent (onSession job 0 (outcome good) s .0)) (onSession job 0 (outcome good) s .1)) (unsound s)
+
+-- ---- the answer buffer
+-- what a call leaves: completion code, response length, state, answer buffer
+pub record Served : Type 0 where
+  pub code : ℕ
+  pub len : ℕ
+  pub state : State
+  pub answer : List ℕ
+
+-- "A success writes the response at the front of the answer buffer and keeps the bytes behind it."
+abbrev pub servedWith : Outcome → List ℕ → Served
+servedWith o a = record { code = o .code; len = length (o .response); state = o .state; answer = laid (o .response) a }
+
+-- THE LIBRARY'S FUNCTION: a message at the clock t, the state and the answer buffer; the buffer is lent too, and its length must be exact
+unfoldable pub served : ℕ → List ℕ → State → List ℕ → Served
+served t m s a = servedWith (cond (eqb (length a) answerSize) (respond t m s) (unsound s)) a

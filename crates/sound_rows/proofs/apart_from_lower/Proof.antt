@@ -1,0 +1,39 @@
+-- `apart_from_lower`: the loop carries the answer for the rows passed.
+use native.Mathlib.Omega.{arith}
+use mathlib.Core.Path.{_≡_}
+use Prim.Native.Nat.{ℕ, _≤_, _-_}
+use Rattle.laws.specs.All.{all, all-start, all-step, all-end}
+use Rattle.state.specs.State.{State}
+use Rattle.sound_rows.specs.Rows.{withRows}
+use Rattle.state.specs.Soundness.{rowsApart}
+use Rattle.sound_rows.proofs.apart_from_lower.Statement.{statement}
+use Rattle.sound_rows.proofs.apart_from_lower.Tie as tie
+
+abbrev Inv-loop : tie.InvT-loop
+Inv-loop rows table i ok₀ j₀ ok j = (j ≤ i) × ((s : State) → ok ≡ all (rowsApart (withRows rows table s) i) j)
+
+abbrev μ-loop : tie.MeasureT-loop
+μ-loop rows table i ok₀ j₀ ok j = i - j
+
+loop-holds : tie.Need-loop-holds Inv-loop μ-loop
+loop-holds c = (omega arith, λ s. all-start _)
+
+rows-apart-requires : tie.Need-rows-apart-requires Inv-loop μ-loop
+rows-apart-requires c κs = omega arith
+
+add-j : tie.Need-add-j Inv-loop μ-loop
+add-j c = omega arith
+
+loop-less : tie.Need-loop-less Inv-loop μ-loop
+loop-less c = omega arith
+
+loop-again : tie.Need-loop-again Inv-loop μ-loop
+loop-again c = (omega arith, λ s. all-step _ _ _ _ (c .before .before .loop .inv .1 s) (c .rows-apart .ensures s))
+
+returns : tie.Need-returns Inv-loop μ-loop
+returns c = λ s. all-end _ _ _ _ (omega arith) (omega arith) (c .before .loop .inv .1 s)
+
+pub apart-from-lower-spec : {M : Type 1} → statement M
+apart-from-lower-spec =
+    tie.close
+    (tie.spec Inv-loop μ-loop loop-holds rows-apart-requires add-j loop-less loop-again returns)

@@ -1,0 +1,25 @@
+-- `writes_slot`: from the row read.
+use Rattle.state.specs.Soundness.{writesSlot}
+use borrow.Author.Needs.{needs}
+use Rattle.sound_rows.proofs.writes_slot.Statement.{statement}
+use Rattle.sound_rows.proofs.writes_slot.Tie as tie
+
+read-row-requires : tie.Need-read-row-requires
+read-row-requires c κs = search needs
+
+has-requires : tie.Need-has-requires
+has-requires c κs = search needs
+
+flags-requires : tie.Need-flags-requires
+flags-requires c κs = search needs
+
+cast-result : tie.Need-cast-result
+cast-result c = search needs
+
+returns : tie.Need-returns
+unfolding writesSlot
+returns c = λ s. rw (c .before .before .before .before .read-row .ensures, c .before .before .before .has .ensures, c .before .flags .ensures)
+
+pub writes-slot-spec : {M : Type 1} → statement M
+writes-slot-spec =
+    tie.close (tie.spec read-row-requires has-requires flags-requires cast-result returns)

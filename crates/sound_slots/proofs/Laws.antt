@@ -1,0 +1,43 @@
+-- Laws of parts of lists, of a name field and of a slot, as the test reads them. Assumes nothing.
+use mathlib.Core.Path.{_≡_, refl, sym, _∙_, ap}
+use mathlib.Core.Bool.{Bool, true, false, _&&_, true≢false}
+use mathlib.Core.List.{List, _++_}
+use Prim.Native.Nat.{ℕ, _+_, _-_, _≤_}
+use native.Mathlib.Nat.{add-sub-cancel-left}
+use native.Mathlib.Omega.{arith}
+use lib.ListN.{length, take, drop, replicate, length-drop, take-append-drop}
+use lib.Seq.{take-all, length-take-le, drop-at}
+use Rattle.laws.specs.Bytes.{zeros, zeros-true, replicate-zeros, same, eq-same, ne-same, padded, padded-is, firstZero}
+use Rattle.laws.specs.Ranges.{part}
+use Rattle.protocol.specs.Numbers.{nameSize}
+use Rattle.protocol.specs.Names.{storeName, storeField}
+
+-- `&l[a..a + n]`
+pub cut : (a n : ℕ) (l : List ℕ) → take (a + n - a) (drop a l) ≡ part a n l
+cut a n l = rw add-sub-cancel-left
+
+-- ---- a name field: the text, then zeros
+pad-zeros : (f : List ℕ) (n : ℕ) → length f ≡ nameSize → n ≤ length f → zeros (drop n f) ≡ same f (padded nameSize (take n f))
+pad-zeros f n l h = go (zeros (drop n f)) refl
+  where
+    short : length (take n f) ≡ n
+    short = length-take-le n f h
+
+    left : length (drop n f) ≡ nameSize - n
+    left = length-drop n f ∙ ap (λ (k : ℕ). k - n) l
+
+    pads : padded nameSize (take n f) ≡ take n f ++ replicate (nameSize - n) 0
+    pads = padded-is nameSize (take n f) (omega (arith, short)) ∙ ap (λ (k : ℕ). take n f ++ replicate (nameSize - k) 0) short
+
+    go : (y : Bool) → zeros (drop n f) ≡ y → y ≡ same f (padded nameSize (take n f))
+    go true e = sym (eq-same f (padded nameSize (take n f)) (sym (take-append-drop n f) ∙ ap (λ (k : List ℕ). take n f ++ k) (zeros-true (drop n f) (nameSize - n) left e) ∙ sym pads))
+    go false e =
+        sym (ne-same f (padded nameSize (take n f)) (λ (q : f ≡ padded nameSize (take n f)).
+        true≢false (sym (ap zeros (ap (drop n) (q ∙ pads) ∙ drop-at (take n f) (replicate (nameSize - n) 0) n short) ∙ replicate-zeros (nameSize - n)) ∙ e)))
+
+pub field-is : (f : List ℕ) (n : ℕ) (a b : Bool) → length f ≡ nameSize → n ≡ firstZero f → n ≤ length f
+    → a ≡ storeName (take n f) → b ≡ zeros (take (length f - n) (drop n f)) → a && b ≡ storeField f
+unfolding storeField
+field-is f n a b l p h u v =
+    let e : take (length f - n) (drop n f) ≡ drop n f = take-all (length f - n) (drop n f) (omega (arith, length-drop n f)) in
+    rw (u, v, e, ← p, pad-zeros f n l h)

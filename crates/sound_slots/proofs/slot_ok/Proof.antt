@@ -1,0 +1,61 @@
+-- `slot_ok`: a used slot or an unused one, as the mask says.
+use Rattle.state.specs.State.{stateOf}
+use Rattle.state.specs.Soundness.{slotAt, slotOk}
+use borrow.Author.Needs.{needs}
+use Rattle.sound_slots.proofs.slot_ok.Statement.{statement}
+use Rattle.sound_slots.proofs.slot_ok.Tie as tie
+
+mul-committed-len : tie.Need-mul-committed-len
+mul-committed-len c = search needs
+
+array-read-committed-len : tie.Need-array-read-committed-len
+array-read-committed-len c = search needs
+
+mul-staged-len : tie.Need-mul-staged-len
+mul-staged-len c = search needs
+
+array-read-staged-len : tie.Need-array-read-staged-len
+array-read-staged-len c = search needs
+
+bit-of-requires : tie.Need-bit-of-requires
+bit-of-requires c κs = search needs
+
+has-requires : tie.Need-has-requires
+has-requires c κs = search needs
+
+cast-has-writer : tie.Need-cast-has-writer
+cast-has-writer c = search needs
+
+has-writer-requires : tie.Need-has-writer-requires
+has-writer-requires c κs = search needs
+
+used-slot-requires : tie.Need-used-slot-requires
+used-slot-requires c κs = search needs
+
+returns : tie.Need-returns
+unfolding slotOk
+returns c = λ i h. let s = stateOf (c .before .before .before .before .before .before .before .before .before .before .before .args .control) (c .before .before .before .before .before .before .before .before .before .before .before .args .table .now) (c .before .before .before .before .before .before .before .before .before .before .before .args .names .now) (c .before .before .before .before .before .before .before .before .before .before .before .args .committed .now) (c .before .before .before .before .before .before .before .before .before .before .before .args .staged .now) i h in rw (← c .before .before .before .has .ensures, c .before .before .if1 .taken, ← c .before .before .before .before .bit-of .ensures, ← c .before .has-writer .ensures s) (c .used-slot .ensures (slotAt (c .before .before .before .before .before .before .before .before .before .before .before .args .k) s))
+
+unused-slot-requires : tie.Need-unused-slot-requires
+unused-slot-requires c κs = search needs
+
+returns-2 : tie.Need-returns-2
+unfolding slotOk
+returns-2 c = λ i h. rw (← c .before .before .has .ensures, c .before .if1 .left, ← c .before .before .before .bit-of .ensures) (c .unused-slot .ensures (slotAt (c .before .before .before .before .before .before .before .before .before .before .args .k) (stateOf (c .before .before .before .before .before .before .before .before .before .before .args .control) (c .before .before .before .before .before .before .before .before .before .before .args .table .now) (c .before .before .before .before .before .before .before .before .before .before .args .names .now) (c .before .before .before .before .before .before .before .before .before .before .args .committed .now) (c .before .before .before .before .before .before .before .before .before .before .args .staged .now) i h)))
+
+pub slot-ok-spec : {M : Type 1} → statement M
+slot-ok-spec =
+    tie.close
+    (tie.spec
+    mul-committed-len
+    array-read-committed-len
+    mul-staged-len
+    array-read-staged-len
+    bit-of-requires
+    has-requires
+    cast-has-writer
+    has-writer-requires
+    used-slot-requires
+    returns
+    unused-slot-requires
+    returns-2)

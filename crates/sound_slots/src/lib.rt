@@ -1,0 +1,176 @@
+// The soundness test's clauses on the slots of the store.
+ghost use mathlib.Core.Path.{_≡_};
+ghost use mathlib.Core.Bool.{Bool};
+ghost use mathlib.Core.List.{List};
+ghost use Prim.Native.Nat.{ℕ, _+_, _*_, _≤_, _<_};
+ghost use lib.ListN.{length};
+ghost use Rattle.laws.specs.All.{all, pairs};
+ghost use Rattle.laws.specs.Bytes.{zeros, same};
+ghost use Rattle.laws.specs.Ranges.{part, block};
+ghost use Rattle.protocol.specs.Numbers.{rowCount, rowWords, slotCount, nameSize, slotSize};
+ghost use Rattle.protocol.specs.Names.{storeField};
+ghost use Rattle.state.specs.State.{State, Slot, stateOf};
+ghost use Rattle.state.specs.Soundness.{usedSlot, unusedSlot, slotOk, namesApart};
+ghost use Rattle.sound_slots.specs.Slots.{withNames, filled};
+use naming::first_zero;
+use naming::same_bytes;
+use naming::store_name;
+use sound_rows::has_writer;
+use state::Control;
+use state::NAME_SIZE;
+use state::SLOT_SIZE;
+use state::SLOTS;
+use state::mask::bit_of;
+use state::mask::has;
+
+// Every byte is zero. No early return, so that the loop is vectorised.
+fn all_zero(bytes: &[u8]) -> bool
+    ensures { λ x. ⌜ x ≡ zeros (now (bytes .entry)) ⌝ }
+{
+    let mut ok = true;
+    for i in 0..bytes.len() {
+        ok = ok & (bytes[i] == 0);
+    }
+    ok
+}
+
+// The n bytes from a place on are zero.
+fn zero_part(bytes: &[u8], at: usize, n: usize) -> bool
+    requires { ⌜ at + n ≤ length (now bytes) ⌝ }
+    ensures { λ x. ⌜ x ≡ zeros (part at n (now (bytes .entry))) ⌝ }
+{
+    let end = at + n;
+    all_zero(&bytes[at..end])
+}
+
+// The n bytes from one place on and from another are the same.
+fn same_part(bytes: &[u8], a: usize, b: usize, n: usize) -> bool
+    requires { ⌜ (a + n ≤ length (now bytes)) × (b + n ≤ length (now bytes)) ⌝ }
+    ensures { λ x. ⌜ x ≡ same (part a n (now (bytes .entry))) (part b n (now (bytes .entry))) ⌝ }
+{
+    let a_end = a + n;
+    let b_end = b + n;
+    same_bytes(&bytes[a..a_end], &bytes[b..b_end])
+}
+
+// A name field holds a store name, padded by zeros.
+fn store_field(field: &[u8]) -> bool
+    requires { ⌜ length (now field) ≡ nameSize ⌝ }
+    ensures { λ x. ⌜ x ≡ storeField (now (field .entry)) ⌝ }
+{
+    let n = first_zero(field);
+    store_name(&field[..n]) & all_zero(&field[n..])
+}
+
+// Slot k's name field, and its mark and lengths, are those of a used slot.
+fn used_slot(
+    names: &[u8],
+    k: usize,
+    mark: u32,
+    committed_len: u32,
+    staged_len: u32,
+    writer: bool,
+) -> bool
+    requires { ⌜ (length (now names) ≡ slotCount * nameSize) × (k < slotCount) ⌝ }
+    ensures { λ x. ⌜ ((b : Slot) → x ≡ usedSlot (filled (block nameSize k .get (now (names .entry))) (b .committedBytes) (b .stagedBytes) mark «committed_len» «staged_len» b) writer) ⌝ }
+{
+    let at = k * NAME_SIZE;
+    let end = at + NAME_SIZE;
+    let most = SLOT_SIZE as u32;
+    (store_field(&names[at..end]) & ((committed_len <= most) & (staged_len <= most)))
+        & (((mark == 1) | ((committed_len == 0) & writer)) & ((staged_len == 0) | writer))
+}
+
+// Slot k's name field and regions, and its mark and lengths, are zero.
+fn unused_slot(
+    names: &[u8],
+    committed: &[u8],
+    staged: &[u8],
+    k: usize,
+    mark: u32,
+    committed_len: u32,
+    staged_len: u32,
+) -> bool
+    requires { ⌜ (length (now names) ≡ slotCount * nameSize) × ((length (now committed) ≡ slotCount * slotSize) × ((length (now staged) ≡ slotCount * slotSize) × (k < slotCount))) ⌝ }
+    ensures { λ x. ⌜ ((b : Slot) → x ≡ unusedSlot (filled (block nameSize k .get (now (names .entry))) (block slotSize k .get (now (committed .entry))) (block slotSize k .get (now (staged .entry))) mark «committed_len» «staged_len» b)) ⌝ }
+{
+    let at = k * SLOT_SIZE;
+    ((mark == 0) & ((committed_len == 0) & (staged_len == 0)))
+        & (zero_part(names, k * NAME_SIZE, NAME_SIZE)
+            & (zero_part(committed, at, SLOT_SIZE) & zero_part(staged, at, SLOT_SIZE)))
+}
+
+// Slot k is right, used or not.
+fn slot_ok(
+    control: Control,
+    table: &[u32],
+    names: &[u8],
+    committed: &[u8],
+    staged: &[u8],
+    k: usize,
+) -> bool
+    requires { ⌜ (length (now table) ≡ rowCount * rowWords) × ((length (now names) ≡ slotCount * nameSize) × ((length (now committed) ≡ slotCount * slotSize) × ((length (now staged) ≡ slotCount * slotSize) × (k < slotCount)))) ⌝ }
+    ensures { λ x. ⌜ ((i h : List ℕ) → x ≡ slotOk (stateOf control (now (table .entry)) (now (names .entry)) (now (committed .entry)) (now (staged .entry)) i h) k) ⌝ }
+{
+    let committed_lens = control.committed_len;
+    let staged_lens = control.staged_len;
+    let committed_len = committed_lens[k];
+    let staged_len = staged_lens[k];
+    let mark = bit_of(control.committed, k);
+    if has(control.slots, k) {
+        let writer = has_writer(control.rows, table, k as u32);
+        return used_slot(names, k, mark, committed_len, staged_len, writer);
+    }
+    unused_slot(names, committed, staged, k, mark, committed_len, staged_len)
+}
+
+// Every slot is right.
+pub fn slots_ok(
+    control: Control,
+    table: &[u32],
+    names: &[u8],
+    committed: &[u8],
+    staged: &[u8],
+) -> bool
+    requires { ⌜ (length (now table) ≡ rowCount * rowWords) × ((length (now names) ≡ slotCount * nameSize) × ((length (now committed) ≡ slotCount * slotSize) × (length (now staged) ≡ slotCount * slotSize))) ⌝ }
+    ensures { λ x. ⌜ ((i h : List ℕ) → x ≡ all (slotOk (stateOf control (now (table .entry)) (now (names .entry)) (now (committed .entry)) (now (staged .entry)) i h)) slotCount) ⌝ }
+{
+    let mut ok = true;
+    for k in 0..SLOTS {
+        ok = ok & slot_ok(control, table, names, committed, staged, k);
+    }
+    ok
+}
+
+// Slots k and l are not used both, or have different names.
+fn names_apart(slots: u32, names: &[u8], k: usize, l: usize) -> bool
+    requires { ⌜ (length (now names) ≡ slotCount * nameSize) × ((k < slotCount) × (l < slotCount)) ⌝ }
+    ensures { λ x. ⌜ ((s : State) → x ≡ namesApart (withNames slots (now (names .entry)) s) k l) ⌝ }
+{
+    let same = same_part(names, k * NAME_SIZE, l * NAME_SIZE, NAME_SIZE);
+    !(has(slots, k) & (has(slots, l) & same))
+}
+
+// Slot k and each slot before it.
+fn apart_from_lower(slots: u32, names: &[u8], k: usize) -> bool
+    requires { ⌜ (length (now names) ≡ slotCount * nameSize) × (k < slotCount) ⌝ }
+    ensures { λ x. ⌜ ((s : State) → x ≡ all (namesApart (withNames slots (now (names .entry)) s) k) k) ⌝ }
+{
+    let mut ok = true;
+    for l in 0..k {
+        ok = ok & names_apart(slots, names, k, l);
+    }
+    ok
+}
+
+// No two used slots have one name.
+pub fn all_names_apart(slots: u32, names: &[u8]) -> bool
+    requires { ⌜ length (now names) ≡ slotCount * nameSize ⌝ }
+    ensures { λ x. ⌜ ((s : State) → x ≡ pairs (namesApart (withNames slots (now (names .entry)) s)) slotCount) ⌝ }
+{
+    let mut ok = true;
+    for k in 0..SLOTS {
+        ok = ok & apart_from_lower(slots, names, k);
+    }
+    ok
+}

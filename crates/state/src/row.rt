@@ -1,0 +1,165 @@
+// Rows of the session table: four words each, read and written whole.
+ghost use mathlib.Core.Path.{_≡_};
+ghost use Prim.Native.Nat.{_*_, _<_, max};
+ghost use lib.Dec.{eqb};
+ghost use lib.ListN.{length};
+ghost use Rattle.laws.specs.Ranges.{block};
+ghost use Rattle.protocol.specs.Names.{kindOf};
+ghost use Rattle.protocol.specs.Numbers.{rowCount, rowWords, statusUnit};
+ghost use Rattle.state.specs.Words.{flagsIn, statusIn, cleanIn, writingIn, wordWith, freeRow};
+ghost use Rattle.state.specs.Entry.{wordsOf, lifted, statusSet, cleanSet};
+use crate::CLEAN_UNIT;
+use crate::ROW_WORDS;
+use crate::STATUS_UNIT;
+use crate::Status;
+use protocol::Flags;
+use protocol::FlashKind;
+
+// A row by value: identifier; blob; flags, job status and clean mark in one word; stamp.
+pub struct Entry {
+    pub id: u32,
+    pub blob: u32,
+    pub word: u32,
+    pub stamp: u32,
+}
+
+impl Entry {
+    // An unused row.
+    pub const FREE: Entry = Entry {
+        id: 0,
+        blob: 0,
+        word: 0,
+        stamp: 0,
+    };
+
+    pub fn flags(self) -> u32
+        ensures { λ x. ⌜ x ≡ flagsIn (self .word) ⌝ }
+    {
+        self.word % STATUS_UNIT
+    }
+
+    pub fn status(self) -> u32
+        ensures { λ x. ⌜ x ≡ statusIn (self .word) ⌝ }
+    {
+        self.word / STATUS_UNIT % Status::COUNT
+    }
+
+    pub fn clean(self) -> u32
+        ensures { λ x. ⌜ x ≡ cleanIn (self .word) ⌝ }
+    {
+        self.word / CLEAN_UNIT % 2
+    }
+
+    // WRITE is among the flags.
+    pub fn writes(self) -> bool
+        ensures { λ x. ⌜ x ≡ eqb (writingIn (self .word)) 1 ⌝ }
+    {
+        self.flags() / Flags::WRITE.0 as u32 % 2 == 1
+    }
+
+    // The stamp lifted to the clock if that is later.
+    pub fn lifted(self, clock: u32) -> Entry
+        ensures { λ x. ⌜ x ≡ lifted self clock ⌝ }
+    {
+        Entry {
+            id: self.id,
+            blob: self.blob,
+            word: self.word,
+            stamp: later(self.stamp, clock),
+        }
+    }
+
+    // Another job status.
+    pub fn with_status(self, status: u32) -> Entry
+        requires { ⌜ status < 4 ⌝ }
+        ensures { λ x. ⌜ x ≡ statusSet self status ⌝ }
+    {
+        Entry {
+            id: self.id,
+            blob: self.blob,
+            word: word_with(self.flags(), status, self.clean()),
+            stamp: self.stamp,
+        }
+    }
+
+    // Another clean mark.
+    pub fn with_clean(self, clean: u32) -> Entry
+        requires { ⌜ clean < 2 ⌝ }
+        ensures { λ x. ⌜ x ≡ cleanSet self clean ⌝ }
+    {
+        Entry {
+            id: self.id,
+            blob: self.blob,
+            word: word_with(self.flags(), self.status(), clean),
+            stamp: self.stamp,
+        }
+    }
+}
+
+// The third word with these flags, this job status and this clean mark.
+pub fn word_with(flags: u32, status: u32, clean: u32) -> u32
+    requires { ⌜ (flags < statusUnit) × ((status < 4) × (clean < 2)) ⌝ }
+    ensures { λ x. ⌜ x ≡ wordWith flags status clean ⌝ }
+{
+    flags + status * STATUS_UNIT + clean * CLEAN_UNIT
+}
+
+// The later of two clocks.
+pub fn later(a: u32, b: u32) -> u32
+    ensures { λ x. ⌜ x ≡ max a b ⌝ }
+{
+    if a < b { b } else { a }
+}
+
+// The flash name of a blob number that is no slot's.
+pub fn kind_of(blob: u32) -> FlashKind
+    ensures { λ x. ⌜ x ≡ kindOf blob ⌝ }
+{
+    if blob == FlashKind::Image.number() {
+        return FlashKind::Image;
+    }
+    if blob == FlashKind::Hash.number() {
+        return FlashKind::Hash;
+    }
+    if blob == FlashKind::Verify.number() {
+        return FlashKind::Verify;
+    }
+    if blob == FlashKind::Update.number() {
+        return FlashKind::Update;
+    }
+    FlashKind::Cleanup
+}
+
+// Row r of the table.
+pub fn read_row(table: &[u32], r: usize) -> Entry
+    requires { ⌜ (length (now table) ≡ rowCount * rowWords) × (r < rowCount) ⌝ }
+    ensures { λ e. ⌜ block rowWords r .get (now (table .entry)) ≡ wordsOf e ⌝ }
+{
+    let at = r * ROW_WORDS;
+    Entry {
+        id: table[at],
+        blob: table[at + 1],
+        word: table[at + 2],
+        stamp: table[at + 3],
+    }
+}
+
+// Row r of the table becomes e.
+pub fn write_row(table: &mut [u32], r: usize, e: Entry)
+    requires { ⌜ (length (now table) ≡ rowCount * rowWords) × (r < rowCount) ⌝ }
+    ensures { λ _. ⌜ now (table .exit) ≡ block rowWords r .put (wordsOf e) (now (table .entry)) ⌝ }
+{
+    let at = r * ROW_WORDS;
+    table[at] = e.id;
+    table[at + 1] = e.blob;
+    table[at + 2] = e.word;
+    table[at + 3] = e.stamp;
+}
+
+// Row r of the table becomes that of an unused row.
+pub fn clear_row(table: &mut [u32], r: usize)
+    requires { ⌜ (length (now table) ≡ rowCount * rowWords) × (r < rowCount) ⌝ }
+    ensures { λ _. ⌜ now (table .exit) ≡ block rowWords r .put (freeRow .words) (now (table .entry)) ⌝ }
+{
+    write_row(table, r, Entry::FREE)
+}
