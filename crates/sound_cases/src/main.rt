@@ -1,7 +1,7 @@
 // Tests the states that standard input describes and writes a line for each. The state starts fresh. A record is seven bytes: what is stored to (0 the control
 // words, 1 the table, 2 the names, 3 the committed and 4 the staged regions; any other: the state is tested), the place and the value, lowest byte first.
 // The control words are those of the C interface: masks of rows, slots and slots committed, 16 committed and 16 staged lengths, phase, image length, hash
-// length, next identifier, last sweep. bench/sound/cases.py writes the input and the expected output.
+// length, next identifier, last sweep. tests/sound_cases.py writes the input and the expected output.
 ghost use Prim.Native.Nat.{_+_, _≤_};
 ghost use lib.ListN.{length};
 use sound::sound;

@@ -1,0 +1,110 @@
+#!/usr/bin/env python3
+"""Runs the program `blobrun` as its users do: on the examples, on standard input, on cut and large files, on bad arguments.
+
+blobrun.py --check            needs target/bin/blobrun (rt check blobrun)
+blobrun.py --write PROGRAM    writes examples/*.lines by another program that prints the same lines"""
+import pathlib
+import resource
+import subprocess
+import sys
+import tempfile
+
+ROOT = pathlib.Path(__file__).resolve().parent.parent
+sys.path.insert(0, str(ROOT / "tools"))
+import recording  # noqa: E402
+
+PROGRAM = ROOT / "target" / "bin" / "blobrun"
+STORIES = sorted((ROOT / "examples").glob("*.txt"))
+
+
+def run(*words, data=None, program=PROGRAM):
+    done = subprocess.run([str(program), *map(str, words)], input=data, capture_output=True, check=False)
+    return done.stdout.decode("ascii"), done.stderr.decode()
+
+
+def expect(what, found, wanted):
+    if found != wanted:
+        sys.exit(f"{what}:\n  found  {found!r:.400}\n  wanted {wanted!r:.400}")
+
+
+def examples():
+    for story in STORIES:
+        requests, lines = story.with_suffix(".requests"), story.with_suffix(".lines")
+        expect(f"{requests.name} is made from {story.name}", recording.make(story.read_text(encoding="utf-8")), requests.read_bytes())
+        wanted = lines.read_text(encoding="ascii")
+        expect(f"blobrun {requests.name}", run(requests), (wanted, ""))
+        expect(f"blobrun < {requests.name}", run(data=requests.read_bytes()), (wanted, ""))
+        expect(f"blobrun - < {requests.name}", run("-", data=requests.read_bytes()), (wanted, ""))
+
+
+def paper():
+    """The lines that document 01 gives."""
+    closed = recording.make("0 open /scan/a 0003\n0 close 0\n0 raw\n0 raw CFC2000B\n0 raw CFC20100\n")
+    expect("closed session, empty, unknown subcommand, other OEM number", run(data=closed)[0].splitlines()[1:], ["00 CFC20006", "C7", "C1", "CC"])
+    expect("no record", run(data=b""), ("", ""))
+
+
+def cut():
+    """A file cut at every place: the lines of its whole records, then CUT unless it ends with one."""
+    data = (ROOT / "examples" / "two-moreaus.requests").read_bytes()
+    lines = (ROOT / "examples" / "two-moreaus.lines").read_text(encoding="ascii").splitlines()
+    for end in range(len(data) + 1):
+        whole = [clock for clock, _ in recording.records(data[:end])]
+        wanted = lines[:len(whole)]
+        if whole and whole[-1] is None:
+            wanted = lines[:len(whole) - 1] + ["CUT"]
+        expect(f"the first {end} bytes", run(data=data[:end])[0].splitlines(), wanted)
+    expect("a record longer than a message", run(data=bytes(4) + b"\xff" + bytes(254))[0], "CUT\n")
+    expect("the same, whole", run(data=bytes(4) + b"\xff" + bytes(255))[0], "C7\n")
+
+
+def identifiers():
+    """"Next" 65,535 is given out, then 0; a file of 65,537 Opens and Closes."""
+    with tempfile.NamedTemporaryFile(suffix=".requests") as file:
+        for i in range(65537):
+            file.write(recording.make(f"{i % 60} open /scan/a 0003\n{i % 60} close {i % 65536}\n"))
+        file.flush()
+        lines = run(file.name)[0].splitlines()
+    given = [int.from_bytes(bytes.fromhex(line[3:])[6:], "little") for line in lines[::2]]
+    expect("identifiers", given, [i % 65536 for i in range(65537)])
+    expect("closes", set(lines[1::2]), {"00 CFC20006"})
+
+
+def memory():
+    """Constant memory: with 64 MiB of address space a file of 24 MB runs."""
+    record = recording.make("0 count\n")
+    with tempfile.NamedTemporaryFile(suffix=".requests") as file:
+        for _ in range(2700):
+            file.write(record * 1000)
+        file.flush()
+        def limit():
+            resource.setrlimit(resource.RLIMIT_AS, (1 << 26, 1 << 26))
+        done = subprocess.run([str(PROGRAM), file.name], capture_output=True, check=False, preexec_fn=limit)
+    line = run(data=record)[0].encode()
+    expect("2,700,000 records", (len(done.stdout), done.stdout[:len(line)], done.stderr), (len(line) * 2700000, line, b""))
+
+
+def words():
+    out, err = run("--help")
+    if "blobrun FILE" not in out or err:
+        sys.exit(f"--help: {out!r} {err!r}")
+    for path in (ROOT / "no such file", ROOT):
+        out, err = run(path)
+        if out or err.count("\n") != 1:
+            sys.exit(f"{path.name}: {out!r} {err!r}")
+
+
+def main():
+    if sys.argv[1:2] == ["--write"]:
+        for story in STORIES:
+            requests = story.with_suffix(".requests")
+            requests.write_bytes(recording.make(story.read_text(encoding="utf-8")))
+            story.with_suffix(".lines").write_text(run(requests, program=sys.argv[2])[0], encoding="ascii")
+        return
+    for test in (examples, paper, cut, identifiers, memory, words):
+        test()
+        print(f"blobrun, {test.__name__}: as expected")
+
+
+if __name__ == "__main__":
+    main()
