@@ -7,7 +7,7 @@ ghost use Rattle.laws.specs.Bytes.{bytesOf};
 ghost use Rattle.protocol.specs.Frame.{done, reply, header, framed, answerAfter, statFields};
 
 // Bytes are stored from `at` on; the place behind them.
-fn put_at(dst: &mut [u8], at: usize, src: &[u8]) -> usize
+pub fn put_at(dst: &mut [u8], at: usize, src: &[u8]) -> usize
     requires { ⌜ at + length (now src) ≤ length (now dst) ⌝ }
     ensures { λ r. ⌜ (r ≡ at + length (now (src .entry))) × (now (dst .exit) ≡ paste (now (dst .entry)) at (now (src .entry)) (length (now (src .entry)))) ⌝ }
 {
@@ -49,7 +49,7 @@ pub fn stat_bytes(state: u16, size: u32) -> [u8; 7]
 }
 
 // OEM number and subcommand.
-fn header_of(sub: u8) -> [u8; 4]
+pub fn header_of(sub: u8) -> [u8; 4]
     ensures { λ r. ⌜ r ≡ header sub ⌝ }
 {
     let n = protocol::OEM;

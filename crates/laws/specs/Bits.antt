@@ -76,17 +76,6 @@ put-lt (suc i) (suc w) b m h q =
     let r : putBit i b (m / 2) < 2 ^ w = put-lt i w b (m / 2) (omega arith) (omega arith) in
     rw pow-suc (omega arith)
 
--- the place's weight, taken out and put in
-pub put-sum : (i b m : ℕ) → putBit i b m + bit i m * 2 ^ i ≡ m + b % 2 * 2 ^ i
-put-sum zero b m = omega arith
-put-sum (suc i) b m = simp (pow-suc, ← mul-assoc) (omega (arith, put-sum i b (m / 2)))
-
-pub put-one : (i m : ℕ) → bit i m ≡ 0 → putBit i 1 m ≡ m + 2 ^ i
-put-one i m h = let e : putBit i 1 m + bit i m * 2 ^ i ≡ m + 1 * 2 ^ i = put-sum i 1 m in omega (arith, rw h at e)
-
-pub put-none : (i m : ℕ) → bit i m ≡ 1 → putBit i 0 m ≡ m - 2 ^ i
-put-none i m h = let e : putBit i 0 m + bit i m * 2 ^ i ≡ m + 0 * 2 ^ i = put-sum i 0 m in omega (arith, rw h at e)
-
 -- m & (1 << i), m | (1 << i), m & !(1 << i) in w bits
 pub bit-and : (i m : ℕ) → bitAnd (m / 2 ^ i) 1 ≡ bit i m
 bit-and i m = and-mask (m / 2 ^ i) 1 ∙ sym (bit-shift i m)

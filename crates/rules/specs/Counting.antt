@@ -28,7 +28,7 @@ none-in : (m : ℕ) → 0 ≡ onesIn 0 m
 unfolding onesIn
 none-in m = refl
 
-committed-count : (n : ℕ) (s : State) → length (committedNames n s) ≡ onesIn n (s .store .marks)
+pub committed-count : (n : ℕ) (s : State) → length (committedNames n s) ≡ onesIn n (s .store .marks)
 unfolding committedNames
 committed-count zero s = none-in (s .store .marks)
 committed-count (suc n) s =
@@ -42,7 +42,7 @@ flashCount Idle = 3
 flashCount Uploading = 4
 flashCount Verified = 5
 
-flash-count : (p : Phase) → length (flashNames p) ≡ flashCount p
+pub flash-count : (p : Phase) → length (flashNames p) ≡ flashCount p
 unfolding flashNames flashListed
 flash-count Idle = refl
 flash-count Uploading = refl
