@@ -1,0 +1,114 @@
+// The public library: one request, or one job outcome, on the state that the caller lends.
+ghost use mathlib.Core.Path.{_≡_};
+ghost use mathlib.Core.List.{List};
+ghost use Prim.Native.Nat.{ℕ};
+ghost use Rattle.state.specs.State.{stateOf};
+ghost use Rattle.rules.specs.Respond.{silent, jobOutcome, served};
+ghost use Rattle.commands.specs.Left.{replyOf};
+ghost use Rattle.blobs.specs.Call.{servedOf, outcomeOf};
+use commands::Said;
+use decoding::decode;
+use protocol::Code;
+use sending::finish;
+use serving::serve;
+use sound::sound;
+use state::Control;
+
+// The completion code, how long the response is, and the control block after the request.
+pub struct Reply {
+    pub code: Code,
+    pub len: usize,
+    pub control: Control,
+}
+
+// The length of the answer buffer.
+pub const ANSWER_SIZE: usize = 64;
+
+// Answers one request. The caller lends the session table (64 words), the names (512 bytes), the committed and staged regions (65,536 bytes
+// each), the image (16,384 bytes), the hash (64 bytes) and the answer buffer (64 bytes); anything else, and any state that is not sound, is
+// refused with NOT_SOUND and left as it was.
+pub fn respond(
+    request: &[u8],
+    clock: u32,
+    control: Control,
+    table: &mut [u32],
+    names: &mut [u8],
+    committed: &mut [u8],
+    staged: &mut [u8],
+    image: &mut [u8],
+    hash: &mut [u8],
+    answer: &mut [u8],
+) -> Reply
+    ensures { λ r. ⌜ servedOf r (now (table .exit)) (now (names .exit)) (now (committed .exit)) (now (staged .exit)) (now (image .exit)) (now (hash .exit)) (now (answer .exit)) ≡ served clock (now (request .entry)) (stateOf control (now (table .entry)) (now (names .entry)) (now (committed .entry)) (now (staged .entry)) (now (image .entry)) (now (hash .entry))) (now (answer .entry)) ⌝ }
+{
+    if answer.len() != ANSWER_SIZE {
+        return Reply {
+            code: Code::NOT_SOUND,
+            len: 0,
+            control,
+        };
+    }
+    if !sound(control, table, names, committed, staged, image, hash) {
+        return Reply {
+            code: Code::NOT_SOUND,
+            len: 0,
+            control,
+        };
+    }
+    let asked = decode(request);
+    let act = serve(
+        request,
+        clock,
+        asked,
+        control,
+        table,
+        names,
+        committed,
+        staged,
+        image,
+        hash,
+        answer,
+    );
+    let said = act.said;
+    let sent = finish(asked.number(), said, answer);
+    let next = act.control;
+    let code = sent.code;
+    Reply {
+        code,
+        len: sent.len,
+        control: next,
+    }
+}
+
+// The completion code of what a command says.
+fn code_of(said: Said) -> Code
+    ensures { λ r. ⌜ ((a : List ℕ) → r .0 ≡ silent (replyOf said a) .0) ⌝ }
+{
+    match said {
+        Said::Refused(code) => code,
+        Said::Done => Code::SUCCESS,
+        Said::Session { id: _ } => Code::SUCCESS,
+        Said::Number { n: _ } => Code::SUCCESS,
+        Said::Stat { state: _, size: _ } => Code::SUCCESS,
+        Said::Fields { len: _ } => Code::SUCCESS,
+    }
+}
+
+// Takes the outcome of the running job, good or failed. The control block stays as it is; of what is lent only the session table changes.
+pub fn job_outcome(
+    good: bool,
+    control: Control,
+    table: &mut [u32],
+    names: &[u8],
+    committed: &[u8],
+    staged: &[u8],
+    image: &[u8],
+    hash: &[u8],
+) -> Code
+    ensures { λ r. ⌜ outcomeOf r control (now (table .exit)) (now (names .entry)) (now (committed .entry)) (now (staged .entry)) (now (image .entry)) (now (hash .entry)) ≡ jobOutcome good (stateOf control (now (table .entry)) (now (names .entry)) (now (committed .entry)) (now (staged .entry)) (now (image .entry)) (now (hash .entry))) ⌝ }
+{
+    if !sound(control, table, names, committed, staged, image, hash) {
+        return Code::NOT_SOUND;
+    }
+    code_of(sessions::outcome(control, table, good))
+}

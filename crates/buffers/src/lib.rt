@@ -1,0 +1,122 @@
+// Work on lent memory: bytes stored or cleared, a slot's regions and name, the row of a session looked up.
+ghost use mathlib.Core.Path.{_≡_};
+ghost use Prim.Native.Nat.{_+_, _*_, _≤_, _<_};
+ghost use lib.ListN.{length, replicate};
+ghost use lib.Seq.{sets};
+ghost use Rattle.laws.specs.Ranges.{part, block};
+ghost use Rattle.laws.specs.Bytes.{padded};
+ghost use Rattle.laws.specs.Find.{first};
+ghost use Rattle.protocol.specs.Numbers.{rowCount, rowWords, slotCount, nameSize, slotSize};
+ghost use Rattle.state.specs.Answers.{optionOf};
+ghost use Rattle.state.specs.Entry.{wordsOf};
+ghost use Rattle.buffers.specs.Lookup.{fits, sought};
+use state::NAME_SIZE;
+use state::ROWS;
+use state::SLOT_SIZE;
+use state::SLOTS;
+use state::mask::Found;
+use state::mask::has;
+use state::row::Entry;
+use state::row::read_row;
+
+// The bytes src are stored into dst from `at` on.
+pub fn copy_at(dst: &mut [u8], at: usize, src: &[u8])
+    requires { ⌜ at + length (now src) ≤ length (now dst) ⌝ }
+    ensures { λ _. ⌜ now (dst .exit) ≡ sets (now (dst .entry)) at (now (src .entry)) ⌝ }
+{
+    let mut i: usize = 0;
+    while i < src.len() {
+        dst[at + i] = src[i];
+        i += 1;
+    }
+}
+
+// n zeros are stored into dst from `at` on.
+pub fn clear_at(dst: &mut [u8], at: usize, n: usize)
+    requires { ⌜ at + n ≤ length (now dst) ⌝ }
+    ensures { λ _. ⌜ now (dst .exit) ≡ sets (now (dst .entry)) at (replicate n 0) ⌝ }
+{
+    let mut i: usize = 0;
+    while i < n {
+        dst[at + i] = 0;
+        i += 1;
+    }
+}
+
+// Slot k's region of dst becomes its region of src.
+pub fn copy_region(dst: &mut [u8], src: &[u8], k: usize)
+    requires { ⌜ (length (now dst) ≡ slotCount * slotSize) × ((length (now src) ≡ slotCount * slotSize) × (k < slotCount)) ⌝ }
+    ensures { λ _. ⌜ now (dst .exit) ≡ block slotSize k .put (block slotSize k .get (now (src .entry))) (now (dst .entry)) ⌝ }
+{
+    let at = k * SLOT_SIZE;
+    let end = at + SLOT_SIZE;
+    copy_at(dst, at, &src[at..end])
+}
+
+// Slot k's region of dst becomes zeros.
+pub fn clear_region(dst: &mut [u8], k: usize)
+    requires { ⌜ (length (now dst) ≡ slotCount * slotSize) × (k < slotCount) ⌝ }
+    ensures { λ _. ⌜ now (dst .exit) ≡ block slotSize k .put (replicate slotSize 0) (now (dst .entry)) ⌝ }
+{
+    clear_at(dst, k * SLOT_SIZE, SLOT_SIZE)
+}
+
+// Slot k's name becomes zeros.
+pub fn clear_name(names: &mut [u8], k: usize)
+    requires { ⌜ (length (now names) ≡ slotCount * nameSize) × (k < slotCount) ⌝ }
+    ensures { λ _. ⌜ now (names .exit) ≡ block nameSize k .put (replicate nameSize 0) (now (names .entry)) ⌝ }
+{
+    clear_at(names, k * NAME_SIZE, NAME_SIZE)
+}
+
+// Slot k's name becomes the len bytes that stand in the message from `start` on, padded by zeros.
+pub fn put_name(names: &mut [u8], k: usize, message: &[u8], start: usize, len: usize)
+    requires { ⌜ (length (now names) ≡ slotCount * nameSize) × ((k < slotCount) × ((len ≤ nameSize) × (start + len ≤ length (now message)))) ⌝ }
+    ensures { λ _. ⌜ now (names .exit) ≡ block nameSize k .put (padded nameSize (part start len (now (message .entry)))) (now (names .entry)) ⌝ }
+{
+    let at = k * NAME_SIZE;
+    let end = start + len;
+    copy_at(names, at, &message[start..end]);
+    clear_at(names, at + len, NAME_SIZE - len)
+}
+
+// The row that is looked for: the session of an identifier, the session on a blob, or the flash session.
+pub enum Wanted {
+    Id(u32),
+    Blob(u32),
+    Flash,
+}
+
+// The row is the one wanted, if it is used.
+fn fits(e: Entry, wanted: Wanted) -> bool
+    ensures { λ x. ⌜ x ≡ fits wanted (wordsOf e) ⌝ }
+{
+    match wanted {
+        Wanted::Id(id) => e.id == id,
+        Wanted::Blob(blob) => e.blob == blob,
+        Wanted::Flash => SLOTS as u32 <= e.blob,
+    }
+}
+
+// Row r is used and the one wanted.
+fn is_sought(table: &[u32], rows: u32, wanted: Wanted, r: usize) -> bool
+    requires { ⌜ (length (now table) ≡ rowCount * rowWords) × (r < rowCount) ⌝ }
+    ensures { λ x. ⌜ x ≡ sought wanted (now (table .entry)) rows r ⌝ }
+{
+    has(rows, r) & fits(read_row(table, r), wanted)
+}
+
+// The first used row that is the one wanted.
+pub fn find_row(table: &[u32], rows: u32, wanted: Wanted) -> Found
+    requires { ⌜ length (now table) ≡ rowCount * rowWords ⌝ }
+    ensures { λ f. ⌜ optionOf f ≡ first (sought wanted (now (table .entry)) rows) rowCount ⌝ }
+{
+    let mut r: usize = 0;
+    while r < ROWS {
+        if is_sought(table, rows, wanted, r) {
+            return Found::At(r);
+        }
+        r += 1;
+    }
+    Found::Nothing
+}

@@ -1,0 +1,103 @@
+// The steps of Open: the row of a new session, and the slot of a new or a held name.
+ghost use mathlib.Core.Path.{_≡_};
+ghost use mathlib.Core.List.{List};
+ghost use Prim.Native.Nat.{ℕ, _+_, _*_, _<_, _≤_};
+ghost use lib.ListN.{length};
+ghost use Rattle.laws.specs.Ranges.{part};
+ghost use Rattle.protocol.specs.Numbers.{rowCount, rowWords, slotCount, nameSize, slotSize, nameMost, sixteenBits};
+ghost use Rattle.state.specs.State.{stateOf, inBody, slot};
+ghost use Rattle.state.specs.Soundness.{slotAt};
+ghost use Rattle.rules.specs.Open.{newSlot, heldSlot};
+ghost use Rattle.commands.specs.Left.{left};
+ghost use Rattle.opening_steps.specs.Steps.{rowOpened};
+use buffers::clear_region;
+use buffers::copy_region;
+use buffers::put_name;
+use commands::Act;
+use commands::Said;
+use places::fresh_id;
+use places::next_id;
+use protocol::Flags;
+use state::Control;
+use state::Status;
+use state::mask::clear_bit;
+use state::mask::set_bit;
+use state::row::Entry;
+use state::row::word_with;
+use state::row::write_row;
+
+// Row r becomes that of a new session on the blob; its identifier is answered, and "next" becomes the identifier's successor.
+pub fn open_row(
+    r: usize,
+    blob: u32,
+    flags: u16,
+    clean: u32,
+    clock: u32,
+    control: Control,
+    table: &mut [u32],
+) -> Act
+    requires { ⌜ (r < rowCount) × ((clean < 2) × ((control .next < sixteenBits) × (length (now table) ≡ rowCount * rowWords))) ⌝ }
+    ensures { λ o. ⌜ ((names committed staged image hash answer : List ℕ) → left o (now (table .exit)) names committed staged image hash answer ≡ rowOpened r blob flags clean clock (stateOf control (now (table .entry)) names committed staged image hash)) ⌝ }
+{
+    let id = fresh_id(table, control.rows, control.next);
+    let word = word_with(flags as u32, Status::UNTRIED, clean);
+    let row = Entry {
+        id,
+        blob,
+        word,
+        stamp: clock,
+    };
+    write_row(table, r, row);
+    let mut next = control;
+    next.rows = set_bit(control.rows, r);
+    next.next = next_id(id);
+    Act {
+        said: Said::Session { id: id as u16 },
+        control: next,
+    }
+}
+
+// Slot k takes a new name: it starts empty and is not committed.
+pub fn new_slot(
+    k: usize,
+    message: &[u8],
+    start: usize,
+    len: usize,
+    control: Control,
+    names: &mut [u8],
+    committed: &mut [u8],
+    staged: &mut [u8],
+) -> Control
+    requires { ⌜ (k < slotCount) × (((start + len ≤ length (now message)) × (len ≤ nameMost)) × ((length (now names) ≡ slotCount * nameSize) × ((length (now committed) ≡ slotCount * slotSize) × (length (now staged) ≡ slotCount * slotSize)))) ⌝ }
+    ensures { λ v. ⌜ ((table image hash : List ℕ) → stateOf v table (now (names .exit)) (now (committed .exit)) (now (staged .exit)) image hash ≡ inBody (slot k) .put (newSlot (part start len (now (message .entry)))) (stateOf control table (now (names .entry)) (now (committed .entry)) (now (staged .entry)) image hash)) ⌝ }
+{
+    put_name(names, k, message, start, len);
+    clear_region(committed, k);
+    clear_region(staged, k);
+    let mut next = control;
+    next.slots = set_bit(control.slots, k);
+    next.committed = clear_bit(control.committed, k);
+    next.committed_len[k] = 0;
+    next.staged_len[k] = 0;
+    next
+}
+
+// Slot k of a held name: a writing session's staged region and length become the committed ones.
+pub fn stage_slot(
+    k: usize,
+    flags: u16,
+    control: Control,
+    committed: &[u8],
+    staged: &mut [u8],
+) -> Control
+    requires { ⌜ (k < slotCount) × ((length (now committed) ≡ slotCount * slotSize) × (length (now staged) ≡ slotCount * slotSize)) ⌝ }
+    ensures { λ v. ⌜ ((table names image hash : List ℕ) → stateOf v table names (now (committed .entry)) (now (staged .exit)) image hash ≡ inBody (slot k) .put (heldSlot flags (slotAt k (stateOf control table names (now (committed .entry)) (now (staged .entry)) image hash))) (stateOf control table names (now (committed .entry)) (now (staged .entry)) image hash)) ⌝ }
+{
+    if flags != Flags::READ_WRITE.0 {
+        return control;
+    }
+    copy_region(staged, committed, k);
+    let mut next = control;
+    next.staged_len[k] = control.committed_len[k];
+    next
+}

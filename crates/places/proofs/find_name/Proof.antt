@@ -1,0 +1,64 @@
+-- `find_name`: no slot passed so far holds the name.
+use mathlib.Core.Path.{_≡_, sym, _∙_, ap}
+use mathlib.Core.Option.{none}
+use Prim.Native.Nat.{_-_, _≤_, _*_}
+use native.Mathlib.Omega.{arith}
+use Rattle.laws.specs.Ranges.{part}
+use Rattle.laws.specs.Find.{first, first-at, missed}
+use Rattle.protocol.specs.Numbers.{slotCount}
+use Rattle.buffers.specs.Laws.{first-start, first-miss}
+use Rattle.places.specs.Search.{holds}
+use borrow.Author.Needs.{needs}
+use Rattle.places.proofs.find_name.Statement.{statement}
+use Rattle.places.proofs.find_name.Tie as tie
+
+abbrev Inv-loop : tie.InvT-loop
+Inv-loop names slots message start len k₀ k = (k ≤ slotCount) × (first (holds (part start len message) names slots) k ≡ none)
+
+abbrev μ-loop : tie.MeasureT-loop
+μ-loop names slots message start len k₀ k = slotCount - k
+
+loop-holds : tie.Need-loop-holds Inv-loop μ-loop
+loop-holds c = (omega arith, first-start _)
+
+holds-name-requires : tie.Need-holds-name-requires Inv-loop μ-loop
+holds-name-requires c κs = search needs
+
+returns : tie.Need-returns Inv-loop μ-loop
+returns c =
+    let a = c .before .before .before .before .before .before .args in
+    let l = c .before .before .before .loop in
+    let f = holds (part (a .start) (a .len) (a .message .now)) (a .names .now) (a .slots) in
+    sym (first-at f slotCount (l .k) (omega arith) (sym (c .before .holds-name .ensures) ∙ c .if1 .taken) (missed f (l .k) (l .inv .1)))
+
+add-k : tie.Need-add-k Inv-loop μ-loop
+add-k c = omega arith
+
+loop-less : tie.Need-loop-less Inv-loop μ-loop
+loop-less c = omega arith
+
+loop-again : tie.Need-loop-again Inv-loop μ-loop
+loop-again c =
+    let l = c .before .before .before .loop in
+    (omega arith, first-miss _ (l .k) (l .inv .1) (sym (c .before .holds-name .ensures) ∙ c .if1 .left))
+
+returns-2 : tie.Need-returns-2 Inv-loop μ-loop
+returns-2 c =
+    let a = c .before .before .before .before .args in
+    let l = c .before .loop in
+    let e : slotCount ≡ l .k = omega arith in
+    sym (ap (first (holds (part (a .start) (a .len) (a .message .now)) (a .names .now) (a .slots))) e ∙ l .inv .1)
+
+pub find-name-spec : {M : Type 1} → statement M
+find-name-spec =
+    tie.close
+    (tie.spec
+    Inv-loop
+    μ-loop
+    loop-holds
+    holds-name-requires
+    returns
+    add-k
+    loop-less
+    loop-again
+    returns-2)

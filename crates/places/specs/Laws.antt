@@ -1,0 +1,78 @@
+-- Laws of the searches' loops. Assumes nothing.
+use mathlib.Core.Path.{_≡_, refl, sym, _∙_, ap}
+use mathlib.Core.Bool.{Bool, true, false}
+use mathlib.Core.List.{List, _++_}
+use mathlib.Core.Option.{Option, none, some}
+use Prim.Native.Nat.{ℕ, zero, suc, _+_, _*_, _-_, _≤_, _<_}
+use native.Mathlib.Numerals.{add-one}
+use native.Mathlib.Omega.{arith}
+use native.Mathlib.Decide.{decLt}
+use lib.Dec.{eqb}
+use borrow.Author.Tests.{eq-eqb}
+use lib.ListN.{length, getD, replicate, List·getD-eq-default, List·getD-append, getD-replicate}
+use lib.Seq.{getD-take, getD-append-add}
+use Rattle.laws.specs.All.{all}
+use Rattle.laws.specs.Ranges.{part, length-part}
+use Rattle.laws.specs.Bytes.{same, padded}
+use Rattle.laws.specs.Find.{first}
+use Rattle.protocol.specs.Numbers.{rowCount}
+use Rattle.state.specs.State.{State, Rows, inSessions}
+use Rattle.rules.specs.Session.{by, meant}
+use Rattle.rules.specs.Open.{after, unless, freshFrom}
+use Rattle.places.specs.Search.{isNone}
+
+-- ---- equal lists, byte by byte
+-- two lists agree at i
+unfoldable pub sameAt : List ℕ → List ℕ → ℕ → Bool
+sameAt a b i = eqb (getD a i 0) (getD b i 0)
+
+pub same-all : (a b : List ℕ) (n : ℕ) → length a ≡ n → length b ≡ n → all (sameAt a b) n ≡ same a b
+unfolding same sameAt
+same-all a b n e f = rw (e, f, eq-eqb n n refl)
+
+-- a byte of the padded list
+pub padded-at : (n i : ℕ) (l : List ℕ) → i < n → getD (padded n l) i 0 ≡ getD l i 0
+unfolding padded
+padded-at n i l h = getD-take n (l ++ replicate n 0) i 0 h ∙ go (decLt i (length l))
+  where
+    go : Dec (i < length l) → getD (l ++ replicate n 0) i 0 ≡ getD l i 0
+    go (yes q) = List·getD-append l (replicate n 0) 0 i q
+    go (no q) =
+        let e : i ≡ length l + (i - length l) = omega arith in
+        ap (λ (j : ℕ). getD (l ++ replicate n 0) j 0) e
+        ∙ getD-append-add l (replicate n 0) (i - length l) 0
+        ∙ getD-replicate n (i - length l) 0 0 (omega arith)
+        ∙ sym (List·getD-eq-default l 0 {n = i} (omega arith))
+
+-- behind the part's end there are the padding's zeros
+pub padded-zero : (n i start len : ℕ) (m : List ℕ) → start + len ≤ length m → i < n → len ≤ i → _≡_ {A = ℕ} 0 (getD (padded n (part start len m)) i 0)
+padded-zero n i start len m fits l h =
+    sym (padded-at n i (part start len m) l ∙ List·getD-eq-default (part start len m) 0 {n = i} (omega (arith, length-part start len m fits)))
+
+-- ---- the identifier: the search stops at one that no session has, goes on at another, and takes the one behind them
+module _ (s : State) where
+  pub fresh-stop : (n m id : ℕ) → n ≡ m + 1 → isNone (first (meant (by id) s) rowCount) ≡ true → freshFrom n id s ≡ id
+  unfolding freshFrom
+  fresh-stop n m id e h = rw (e, add-one) (go (first (meant (by id) s) rowCount) h)
+    where
+      go : (o : Option ℕ) → isNone o ≡ true → unless o id (freshFrom m (after id) s) ≡ id
+      go none h = refl
+      go (some r) h = absurd (let z : _≡_ {A = ℕ} 0 1 = cc in omega arith)
+
+  pub fresh-step : (n m id : ℕ) → n ≡ m + 1 → isNone (first (meant (by id) s) rowCount) ≡ false → freshFrom n id s ≡ freshFrom m (after id) s
+  unfolding freshFrom
+  fresh-step n m id e h = rw (e, add-one) (go (first (meant (by id) s) rowCount) h)
+    where
+      go : (o : Option ℕ) → isNone o ≡ false → unless o id (freshFrom m (after id) s) ≡ freshFrom m (after id) s
+      go none h = absurd (let z : _≡_ {A = ℕ} 0 1 = cc in omega arith)
+      go (some r) h = refl
+
+  pub fresh-last : (n id : ℕ) → n ≡ 0 → freshFrom n id s ≡ id
+  unfolding freshFrom
+  fresh-last n id e = rw e
+
+-- the identifier hangs on the session table and its mask alone
+pub fresh-same : (n id : ℕ) (x : Rows) (s s′ : State) → freshFrom n id (inSessions .put x s) ≡ freshFrom n id (inSessions .put x s′)
+unfolding freshFrom
+fresh-same zero id x s s′ = refl
+fresh-same (suc n) id x s s′ = ap (unless (first (meant (by id) (inSessions .put x s)) rowCount) id) (fresh-same n (after id) x s s′)

@@ -1,0 +1,63 @@
+-- `outcome`: of the flash session, of none.
+use mathlib.Core.Path.{_≡_, sym, _∙_, ap, refl}
+use mathlib.Core.List.{List}
+use Prim.Native.Nat.{ℕ}
+use Rattle.protocol.specs.Frame.{Reply}
+use Rattle.state.specs.State.{State, stateOf}
+use Rattle.rules.specs.Store.{outcome}
+use Rattle.rules.specs.Session.{by, job, onRow, onSession}
+use Rattle.buffers.specs.declared.Wanted.the-variants.{Id, Flash}
+use Rattle.buffers.specs.Lookup.{by-id, by-flash}
+use Rattle.sessions.proofs.Laws.{found-low, row-is, found-flash, of-row, of-none}
+use borrow.Author.Needs.{needs}
+use Rattle.sessions.proofs.outcome.Statement.{statement}
+use Rattle.sessions.proofs.outcome.Tie as tie
+
+find-row-requires : tie.Need-find-row-requires
+find-row-requires c κs = search needs
+
+enum-known-found : tie.Need-enum-known-found
+enum-known-found c = search needs
+
+read-row-requires : tie.Need-read-row-requires
+read-row-requires c κs =
+    let a = c .before .before .before .before .before .before .before .args in
+    (c .before .before .before .before .before .before .before .pre, found-low Flash (a .table .now) (a .control .rows) (c .before .before .before .before .find-row .result) (c .before .before .found .given .0 .0) (c .before .before .before .before .find-row .ensures) (c .before .before .found .given .1))
+
+outcome-requires : tie.Need-outcome-requires
+outcome-requires c κs =
+    let a = c .before .before .before .before .before .before .before .before .before .args in
+    (row-is Flash (a .table .now) (a .control .rows) (c .before .before .before .before .before .before .find-row .result) (c .before .before .before .before .found .given .0 .0) (c .before .before .before .before .before .before .find-row .ensures) (c .before .before .before .before .found .given .1) (c .before .read-row .result) (c .before .before .before .before .before .before .before .before .before .pre) (c .before .read-row .ensures), found-flash (a .table .now) (a .control .rows) (c .before .before .before .before .before .before .find-row .result) (c .before .before .before .before .found .given .0 .0) (c .before .read-row .result) (c .before .before .before .before .before .before .find-row .ensures) (c .before .before .before .before .found .given .1) (c .before .read-row .ensures))
+
+enum-told : tie.Need-enum-told
+enum-told c = search needs
+
+same-length : tie.Need-same-length
+same-length c = search needs
+
+returns : tie.Need-returns
+returns c =
+    let a = c .before .before .before .before .before .before .before .before .before .before .before .before .args in
+    λ (t : ℕ) (n m g im h x : List ℕ). of-row (stateOf (a .control) (a .table .now) n m g im h) job Flash (by-flash (stateOf (a .control) (a .table .now) n m g im h)) (c .before .before .before .before .before .before .before .before .before .find-row .result) (c .before .before .before .before .before .before .before .before .before .find-row .ensures) (c .before .before .before .before .before .before .before .found .given .0 .0) t (outcome (a .good)) _ (c .before .before .before .before .before .before .before .found .given .1) (c .before .before .outcome .ensures t n m g im h x)
+
+same-length-2 : tie.Need-same-length-2
+same-length-2 c = search needs
+
+returns-2 : tie.Need-returns-2
+returns-2 c =
+    let a = c .before .before .before .before .before .args in
+    λ (t : ℕ) (n m g im h x : List ℕ). of-none (stateOf (a .control) (a .table .now) n m g im h) job Flash (by-flash (stateOf (a .control) (a .table .now) n m g im h)) (c .before .before .find-row .result) (c .before .before .find-row .ensures) t (outcome (a .good)) (c .enum-told .given .1)
+
+pub outcome-spec : {M : Type 1} → statement M
+outcome-spec =
+    tie.close
+    (tie.spec
+    find-row-requires
+    enum-known-found
+    read-row-requires
+    outcome-requires
+    enum-told
+    same-length
+    returns
+    same-length-2
+    returns-2)
