@@ -86,7 +86,7 @@ def memory():
 
 def words():
     out, err = run("--help")
-    if "blobrun FILE" not in out or err:
+    if not out.startswith("usage: blobrun") or err:
         sys.exit(f"--help: {out!r} {err!r}")
     for path in (ROOT / "no such file", ROOT):
         out, err = run(path)

@@ -1,0 +1,3 @@
+pub mod Step
+pub mod Progress
+pub mod Rest
