@@ -1,0 +1,89 @@
+-- What a call from C leaves: its result, and every word and byte that was lent to it.
+use mathlib.Core.Bool.{Bool, cond}
+use mathlib.Core.List.{List}
+use Prim.Native.Nat.{ℕ, _/_, _%_}
+use Rattle.protocol.specs.Numbers.{notSound}
+use Rattle.state.specs.State.{State, stateOf}
+use Rattle.state.specs.declared.Control.{Control}
+use Rattle.rules.specs.Respond.{Outcome, jobOutcome, Served, served}
+use Rattle.control_words.specs.Words.{controlFits, controlOf, wordsOf}
+
+-- the memory that holds a state: the control block's words, then what the state lends
+pub record Memory : Type 0 where
+  pub control : List ℕ
+  pub table : List ℕ
+  pub names : List ℕ
+  pub committed : List ℕ
+  pub staged : List ℕ
+  pub image : List ℕ
+  pub hash : List ℕ
+
+-- of these: control words, table, names, committed, staged, image, hash
+abbrev pub memory : List ℕ → List ℕ → List ℕ → List ℕ → List ℕ → List ℕ → List ℕ → Memory
+memory w t n c g i h = record { control = w; table = t; names = n; committed = c; staged = g; image = i; hash = h }
+
+-- the state in a memory
+abbrev pub stateIn : Memory → State
+stateIn l = stateOf (controlOf (l .control)) (l .table) (l .names) (l .committed) (l .staged) (l .image) (l .hash)
+
+-- the values of a state that are kept by value
+abbrev pub controlIn : State → Control
+controlIn s = record {
+  rows = s .sessions .rows;
+  slots = s .store .slots;
+  committed = s .store .marks;
+  «committed_len» = s .store .committedLens;
+  «staged_len» = s .store .stagedLens;
+  phase = s .flashGroup .phase;
+  «image_len» = s .flashGroup .imageLen;
+  «hash_len» = s .flashGroup .hashLen;
+  next = s .next;
+  «last_sweep» = s .lastSweep;
+}
+
+-- the memory of a state
+abbrev pub memoryOf : State → Memory
+memoryOf s = record {
+  control = wordsOf (controlIn s);
+  table = s .sessions .table;
+  names = s .store .names;
+  committed = s .store .committed;
+  staged = s .store .staged;
+  image = s .flashGroup .image;
+  hash = s .flashGroup .hash;
+}
+
+-- ---- a request
+-- completion code, response length, memory, answer buffer
+pub record Responded : Type 0 where
+  pub code : ℕ
+  pub len : ℕ
+  pub memory : Memory
+  pub answer : List ℕ
+
+abbrev pub respondedWith : Served → Responded
+respondedWith v = record { code = v .code; len = v .len; memory = memoryOf (v .state); answer = v .answer }
+
+-- THE C FUNCTION `kramsnep_respond`: the library's answer, where the control block's words are one; else FF, and all is as found
+unfoldable pub responded : ℕ → List ℕ → Memory → List ℕ → Responded
+responded t m l a = cond (controlFits (l .control)) (respondedWith (served t m (stateIn l) a)) (record { code = notSound; len = 0; memory = l; answer = a })
+
+-- a result holds the completion code in its lowest byte, and the response length above it
+abbrev pub codeUnit : ℕ
+codeUnit = 256
+
+abbrev pub resultOf : ℕ → Memory → List ℕ → Responded
+resultOf r l a = record { code = r % codeUnit; len = r / codeUnit; memory = l; answer = a }
+
+-- ---- a job outcome
+-- completion code and memory
+pub record Reported : Type 0 where
+  pub code : ℕ
+  pub memory : Memory
+
+abbrev pub reportedWith : Outcome → Reported
+reportedWith o = record { code = o .code; memory = memoryOf (o .state) }
+
+-- THE C FUNCTION `kramsnep_job_outcome`
+unfoldable pub reported : Bool → Memory → Reported
+reported good l = cond (controlFits (l .control)) (reportedWith (jobOutcome good (stateIn l))) (record { code = notSound; memory = l })
