@@ -1,0 +1,62 @@
+//! The first implementation's C functions. The only file with unsafe code.
+#![allow(unsafe_code)]
+
+use crate::harness::{Implementation, OwnedMemory};
+
+#[rustfmt::skip]
+extern "C" {
+    /// Gives the completion code + 256 × the response length.
+    fn kramsnep_respond(
+        request: *const u8, request_len: usize, clock: u32,
+        control: *mut u32, control_len: usize, table: *mut u32, table_len: usize,
+        names: *mut u8, names_len: usize, committed: *mut u8, committed_len: usize,
+        staged: *mut u8, staged_len: usize, image: *mut u8, image_len: usize,
+        hash: *mut u8, hash_len: usize, answer: *mut u8, answer_len: usize,
+    ) -> u32;
+
+    /// Gives the completion code.
+    fn kramsnep_job_outcome(
+        good: bool,
+        control: *mut u32, control_len: usize, table: *mut u32, table_len: usize,
+        names: *const u8, names_len: usize, committed: *const u8, committed_len: usize,
+        staged: *const u8, staged_len: usize, image: *const u8, image_len: usize,
+        hash: *const u8, hash_len: usize,
+    ) -> u32;
+}
+
+/// The first implementation, linked as a static library.
+///
+/// A vector's pointer is never null, also when it is empty, so each slice goes with a good pointer.
+pub struct Library;
+
+impl Implementation for Library {
+    #[rustfmt::skip]
+    fn respond(&mut self, request: &[u8], clock: u32, memory: &mut OwnedMemory, answer: &mut Vec<u8>) -> u32 {
+        let m = memory;
+        // Each pointer and length come from one slice that lives through the call; the slices do not overlap.
+        unsafe {
+            kramsnep_respond(
+                request.as_ptr(), request.len(), clock,
+                m.control.as_mut_ptr(), m.control.len(), m.table.as_mut_ptr(), m.table.len(),
+                m.names.as_mut_ptr(), m.names.len(), m.committed.as_mut_ptr(), m.committed.len(),
+                m.staged.as_mut_ptr(), m.staged.len(), m.image.as_mut_ptr(), m.image.len(),
+                m.hash.as_mut_ptr(), m.hash.len(), answer.as_mut_ptr(), answer.len(),
+            )
+        }
+    }
+
+    #[rustfmt::skip]
+    fn job_outcome(&mut self, good: bool, memory: &mut OwnedMemory) -> u32 {
+        let m = memory;
+        // As above.
+        unsafe {
+            kramsnep_job_outcome(
+                good,
+                m.control.as_mut_ptr(), m.control.len(), m.table.as_mut_ptr(), m.table.len(),
+                m.names.as_ptr(), m.names.len(), m.committed.as_ptr(), m.committed.len(),
+                m.staged.as_ptr(), m.staged.len(), m.image.as_ptr(), m.image.len(),
+                m.hash.as_ptr(), m.hash.len(),
+            )
+        }
+    }
+}

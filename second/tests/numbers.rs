@@ -1,0 +1,736 @@
+//! Document 01's "Numbers to try", its program paragraph, its builder's errors, and each row of the completion code
+//! table.
+
+use second::crc::{crc, eight_shifts, TABLE};
+use second::harness::{self as h, Implementation, OwnedMemory, Second};
+use second::state::{COMMITTED_LENGTHS, LAST_SWEEP, NEXT_IDENTIFIER, PHASE, STAGED_LENGTHS};
+
+/// A cabinet from a fresh state, with a clock that the tests set.
+struct Cabinet {
+    memory: OwnedMemory,
+    clock: u32,
+}
+
+impl Cabinet {
+    fn fresh() -> Cabinet {
+        Cabinet {
+            memory: OwnedMemory::fresh(),
+            clock: 0,
+        }
+    }
+
+    /// The code and the response.
+    fn say(&mut self, request: &[u8]) -> (u8, Vec<u8>) {
+        let mut answer = vec![0xEE; 64];
+        let result = Second.respond(request, self.clock, &mut self.memory, &mut answer);
+        let length = (result >> 8) as usize;
+        assert!(
+            answer[length..].iter().all(|byte| *byte == 0xEE),
+            "bytes behind the response are kept"
+        );
+        assert!(self.memory.is_sound(), "soundness is kept");
+        ((result & 0xFF) as u8, answer[..length].to_vec())
+    }
+
+    fn code(&mut self, request: &[u8]) -> u8 {
+        self.say(request).0
+    }
+
+    /// Opens and gives the identifier.
+    fn open(&mut self, flags: u16, name: &str) -> u16 {
+        let (code, response) = self.say(&h::open(flags, name.as_bytes()));
+        assert_eq!(code, 0, "Open {name}");
+        assert_eq!(response.len(), 8);
+        u16::from_le_bytes([response[6], response[7]])
+    }
+
+    /// Writes this many bytes from the start on.
+    fn fill(&mut self, session: u16, length: u32) {
+        let mut offset = 0;
+        while offset < length {
+            let size = (length - offset).min(52);
+            let data: Vec<u8> = (offset..offset + size).map(|place| place as u8).collect();
+            assert_eq!(self.code(&h::write(session, offset, &data)), 0);
+            offset += size;
+        }
+    }
+
+    fn outcome(&mut self, good: bool) -> u8 {
+        let code = Second.job_outcome(good, &mut self.memory);
+        assert!(self.memory.is_sound());
+        code as u8
+    }
+
+    /// State bits and size by name.
+    fn stat(&mut self, name: &str) -> (u16, u32) {
+        let (code, response) = self.say(&h::stat(name.as_bytes()));
+        assert_eq!((code, response.len(), response[12]), (0, 13, 0), "Stat {name}");
+        state_and_size(&response)
+    }
+
+    fn session_stat(&mut self, session: u16) -> (u16, u32) {
+        let (code, response) = self.say(&h::session_stat(session));
+        assert_eq!((code, response.len(), response[12]), (0, 13, 0));
+        state_and_size(&response)
+    }
+
+    fn count(&mut self) -> u32 {
+        let (code, response) = self.say(&h::count());
+        assert_eq!((code, response.len()), (0, 10));
+        u32::from_le_bytes(response[6..10].try_into().unwrap())
+    }
+
+    fn listed(&mut self) -> Vec<String> {
+        let count = self.count();
+        (0..count)
+            .map(|index| {
+                let (code, response) = self.say(&h::enumerate(index));
+                assert_eq!((code, response.last()), (0, Some(&0)));
+                String::from_utf8(response[6..response.len() - 1].to_vec()).unwrap()
+            })
+            .collect()
+    }
+}
+
+fn state_and_size(response: &[u8]) -> (u16, u32) {
+    let state = u16::from_le_bytes([response[6], response[7]]);
+    (state, u32::from_le_bytes(response[8..12].try_into().unwrap()))
+}
+
+// ---- Numbers to try ----
+
+#[test]
+fn crc_numbers() {
+    assert_eq!(crc(b"123456789"), 0x29B1);
+    assert_eq!(crc(b""), 0xFFFF);
+    assert_eq!(TABLE[1], 0x1021);
+    for entry in 0..=255u8 {
+        assert_eq!(TABLE[usize::from(entry)], eight_shifts(entry));
+    }
+}
+
+#[test]
+fn crc_agrees_with_bit_by_bit() {
+    let bitwise = |bytes: &[u8]| {
+        let mut register: u32 = 0xFFFF;
+        for bit in bytes
+            .iter()
+            .flat_map(|byte| (0..8).rev().map(move |place| byte >> place & 1))
+        {
+            let leaves = register >> 15 & 1 ^ u32::from(bit);
+            register = (register << 1 & 0xFFFF) ^ (leaves * 0x1021);
+        }
+        register as u16
+    };
+    let mut random = h::Random::new(1);
+    for length in 0..200 {
+        let bytes = random.bytes(length);
+        assert_eq!(crc(&bytes), bitwise(&bytes));
+    }
+}
+
+#[test]
+fn fresh_count_is_4() {
+    let mut cabinet = Cabinet::fresh();
+    assert!(cabinet.memory.is_sound());
+    assert_eq!(cabinet.count(), 4);
+    assert_eq!(
+        cabinet.listed(),
+        ["/scan/", "/flash/image", "/flash/hash", "/flash/cleanup"]
+    );
+}
+
+#[test]
+fn reads_at_length_100() {
+    let mut cabinet = Cabinet::fresh();
+    let session = cabinet.open(3, "/scan/a");
+    cabinet.fill(session, 100);
+    let (code, response) = cabinet.say(&h::read(session, 90, 58));
+    assert_eq!((code, response.len()), (0, 6 + 10));
+    assert_eq!(response[6..], [90, 91, 92, 93, 94, 95, 96, 97, 98, 99]);
+    let (code, response) = cabinet.say(&h::read(session, 0, 100));
+    assert_eq!((code, response.len()), (0, 6 + 58));
+    let empty = [0xCF, 0xC2, 0x00, 0x03, 0xFF, 0xFF];
+    for offset in [100, 101, 4096, u32::MAX] {
+        let (code, response) = cabinet.say(&h::read(session, offset, 58));
+        assert_eq!((code, &response[..]), (0, &empty[..]));
+    }
+    let (code, response) = cabinet.say(&h::read(session, 5, 0));
+    assert_eq!((code, &response[..]), (0, &empty[..]));
+}
+
+#[test]
+fn writes_at_length_4060() {
+    let data = [7; 52];
+    let mut cabinet = Cabinet::fresh();
+    let session = cabinet.open(3, "/scan/a");
+    cabinet.fill(session, 4060);
+    assert_eq!(cabinet.code(&h::write(session, 4061, &data)), 0xC9);
+    assert_eq!(cabinet.code(&h::write(session, 4061, &[])), 0xC9);
+    assert_eq!(cabinet.code(&h::write(session, 4045, &data)), 0xC8);
+    assert_eq!(cabinet.session_stat(session), (3, 4060));
+    assert_eq!(cabinet.code(&h::write(session, 4044, &data)), 0);
+    assert_eq!(cabinet.session_stat(session), (3, 4096));
+}
+
+#[test]
+fn sweep_at_700_keeps_and_at_701_closes() {
+    for (clock, closed) in [(700, false), (701, true)] {
+        let mut cabinet = Cabinet::fresh();
+        let session = cabinet.open(3, "/scan/a");
+        cabinet.clock = 100;
+        cabinet.session_stat(session);
+        assert_eq!(
+            (cabinet.memory.row(0).stamp, cabinet.memory.control[LAST_SWEEP]),
+            (100, 0)
+        );
+        cabinet.clock = clock;
+        cabinet.open(3, "/scan/b");
+        assert_eq!(cabinet.memory.control[LAST_SWEEP], clock);
+        let expected = if closed { 0xCB } else { 0x00 };
+        assert_eq!(cabinet.code(&h::session_stat(session)), expected);
+    }
+}
+
+#[test]
+fn sweep_is_due_at_60() {
+    for (clock, noted) in [(59, 0), (60, 60)] {
+        let mut cabinet = Cabinet::fresh();
+        cabinet.clock = clock;
+        // A refused Open keeps the sweep.
+        assert_eq!(cabinet.code(&h::open(3, b"/scan/")), 0xCB);
+        assert_eq!(cabinet.memory.control[LAST_SWEEP], noted);
+        assert_eq!(cabinet.code(&h::open(3, &[b'x'; 32])), 0xCC);
+    }
+}
+
+#[test]
+fn sweep_sums_are_unbounded() {
+    let mut cabinet = Cabinet::fresh();
+    cabinet.clock = u32::MAX - 10;
+    let session = cabinet.open(3, "/scan/a");
+    assert_eq!(cabinet.memory.control[LAST_SWEEP], u32::MAX - 10);
+    for clock in [0, 49, 700, u32::MAX] {
+        cabinet.clock = clock;
+        assert_eq!(cabinet.code(&h::open(1, b"/scan/b")), 0xCB);
+        assert_eq!(cabinet.memory.control[LAST_SWEEP], u32::MAX - 10);
+        assert_eq!(cabinet.code(&h::read(session, 0, 1)), 0);
+    }
+}
+
+#[test]
+fn next_identifier_wraps() {
+    let mut cabinet = Cabinet::fresh();
+    cabinet.memory.control[NEXT_IDENTIFIER] = 65_535;
+    assert_eq!(cabinet.open(3, "/scan/a"), 65_535);
+    assert_eq!(cabinet.memory.control[NEXT_IDENTIFIER], 0);
+    assert_eq!(cabinet.open(3, "/scan/b"), 0);
+    assert_eq!(cabinet.memory.control[NEXT_IDENTIFIER], 1);
+    cabinet.memory.control[NEXT_IDENTIFIER] = 65_535;
+    assert_eq!(cabinet.open(3, "/scan/c"), 1);
+    assert_eq!(cabinet.memory.control[NEXT_IDENTIFIER], 2);
+}
+
+// ---- The program ----
+
+fn record(clock: u32, message: &[u8]) -> Vec<u8> {
+    [&clock.to_le_bytes()[..], &[message.len() as u8], message].concat()
+}
+
+#[test]
+fn program_lines() {
+    use second::run::run;
+    assert_eq!(run(&[]), "");
+    let refused = [
+        record(0, &[]),
+        record(0, &[0xCF, 0xC2, 0x00, 0x0B]),
+        record(0, &[0xCF, 0xC2, 0x01, 0x00]),
+    ]
+    .concat();
+    assert_eq!(run(&refused), "C7\nC1\nCC\n");
+    let opened = [record(1, &h::open(3, b"/scan/a")), record(1, &h::close(0))].concat();
+    let identifier_crc = crc(&[0, 0]).to_le_bytes();
+    let open_line = format!("00 CFC20002{:02X}{:02X}0000\n", identifier_crc[0], identifier_crc[1]);
+    assert_eq!(run(&opened), format!("{open_line}00 CFC20006\n"));
+    let count_crc = crc(&[4, 0, 0, 0]).to_le_bytes();
+    let count_line = format!("00 CFC20000{:02X}{:02X}04000000\n", count_crc[0], count_crc[1]);
+    assert_eq!(run(&record(9, &h::count())), count_line);
+}
+
+#[test]
+fn program_cut_records() {
+    use second::run::run;
+    let whole = [record(0, &h::count()), record(0, &[1, 2, 3])].concat();
+    let first = record(0, &h::count()).len();
+    let count_line = run(&record(0, &h::count()));
+    for length in 1..first {
+        assert_eq!(run(&whole[..length]), "CUT\n");
+    }
+    assert_eq!(run(&whole[..first]), count_line);
+    for length in first + 1..whole.len() {
+        assert_eq!(run(&whole[..length]), format!("{count_line}CUT\n"));
+    }
+    assert_eq!(run(&whole), format!("{count_line}C7\n"));
+    let long = record(0, &[0xCF; 255]);
+    assert_eq!(run(&long), "C7\n");
+}
+
+#[test]
+fn program_answers_after_65_bytes() {
+    let mut message = h::write(0, 0, &[1; 52]);
+    assert_eq!(message.len(), 64);
+    assert_eq!(second::run::run(&record(0, &message)), "CB\n");
+    message = h::write(0, 0, &[1; 53]);
+    assert_eq!(second::run::run(&record(0, &message)), "C7\n");
+}
+
+// ---- The completion code table ----
+
+#[test]
+fn ff_state_not_sound() {
+    let mut cabinet = Cabinet::fresh();
+    cabinet.memory.control[PHASE] = 3;
+    let before = cabinet.memory.clone();
+    let mut answer = vec![0xEE; 64];
+    assert_eq!(Second.respond(&h::count(), 0, &mut cabinet.memory, &mut answer), 0xFF);
+    assert_eq!(Second.respond(&[], 0, &mut cabinet.memory, &mut answer), 0xFF);
+    assert_eq!(Second.job_outcome(true, &mut cabinet.memory), 0xFF);
+    assert_eq!((cabinet.memory, answer), (before, vec![0xEE; 64]));
+    for length in [0, 63, 65] {
+        let mut answer = vec![0xEE; length];
+        assert_eq!(
+            Second.respond(&h::count(), 0, &mut OwnedMemory::fresh(), &mut answer),
+            0xFF
+        );
+    }
+}
+
+#[test]
+fn c7_lengths() {
+    let mut cabinet = Cabinet::fresh();
+    for length in (0..4).chain(65..=255) {
+        assert_eq!(cabinet.code(&vec![0xCF; length]), 0xC7);
+    }
+    // Which lengths after the 4 bytes are right; all else is C7.
+    let right: [(u8, std::ops::RangeInclusive<usize>); 11] = [
+        (0, 0..=0),
+        (1, 6..=6),
+        (2, 5..=60),
+        (3, 12..=12),
+        (4, 8..=60),
+        (5, 5..=60),
+        (6, 4..=4),
+        (7, 3..=60),
+        (8, 3..=60),
+        (9, 4..=4),
+        (10, 8..=60),
+    ];
+    for (subcommand, lengths) in right {
+        for length in 0..=60 {
+            let mut message = vec![0xCF, 0xC2, 0x00, subcommand];
+            message.resize(4 + length, 0x11);
+            assert_eq!(
+                cabinet.code(&message) == 0xC7,
+                !lengths.contains(&length),
+                "{subcommand} with {length}"
+            );
+        }
+    }
+}
+
+#[test]
+fn cc_fields() {
+    let mut cabinet = Cabinet::fresh();
+    let session = cabinet.open(3, "/scan/a");
+    for oem in [[0, 0, 0], [0xCF, 0xC2, 1], [0xCE, 0xC2, 0], [0xCF, 0xC3, 0]] {
+        // The OEM number comes before the subcommand and the body length.
+        assert_eq!(cabinet.code(&[oem[0], oem[1], oem[2], 0]), 0xCC);
+        assert_eq!(cabinet.code(&[oem[0], oem[1], oem[2], 200]), 0xCC);
+        assert_eq!(cabinet.code(&[oem[0], oem[1], oem[2], 0, 1]), 0xCC);
+    }
+    let mut wrong_crc = h::close(session);
+    wrong_crc[4] ^= 1;
+    assert_eq!(cabinet.code(&wrong_crc), 0xCC);
+    // Name forms: empty, without NUL, with two, with 32 characters.
+    for name in [
+        &b"\0"[..],
+        b"/scan/b",
+        b"/scan/b\0\0",
+        b"/sc\0n/b\0",
+        b"/scan/abcdefghijklmnopqrstuvwxyz\0",
+    ] {
+        assert_eq!(
+            cabinet.code(&h::message(2, &[&[3, 0], name].concat())),
+            0xCC,
+            "{name:?}"
+        );
+        assert_eq!(cabinet.code(&h::message(7, name)), 0xCC);
+        assert_eq!(cabinet.code(&h::message(8, name)), 0xCC);
+    }
+    for flags in [0, 2, 4, 5, 7, 0x0101, 0x0103, 0xFFFF] {
+        assert_eq!(cabinet.code(&h::open(flags, b"/scan/b")), 0xCC);
+    }
+    for flags in [0, 1, 3, 0x0102] {
+        // Flags come before absence and busy.
+        assert_eq!(cabinet.code(&h::open(flags, b"/flash/verify")), 0xCC);
+    }
+    assert_eq!(cabinet.code(&h::open(2, b"/scan/a")), 0xCC);
+    assert_eq!(cabinet.code(&h::commit_with(session, 1, &[0])), 0xCC);
+    assert_eq!(cabinet.code(&h::commit_with(session, 0, &[0])), 0xCC);
+    assert_eq!(cabinet.code(&h::commit_with(session, 1, &[])), 0xCC);
+    assert_eq!(cabinet.code(&h::commit(session)), 0);
+}
+
+#[test]
+fn c1_subcommands() {
+    let mut cabinet = Cabinet::fresh();
+    for subcommand in 11..=255 {
+        assert_eq!(cabinet.code(&[0xCF, 0xC2, 0x00, subcommand]), 0xC1);
+        assert_eq!(cabinet.code(&[0xCF, 0xC2, 0x00, subcommand, 1, 2, 3, 4, 5]), 0xC1);
+    }
+}
+
+#[test]
+fn cb_absent() {
+    let mut cabinet = Cabinet::fresh();
+    for name in ["/scan/", "/scan", "/scan/a/b", "/Scan/a", "/flash/", "x"] {
+        // Unknown and base come before the flags.
+        assert_eq!(cabinet.code(&h::open(0, name.as_bytes())), 0xCB);
+    }
+    assert_eq!(cabinet.code(&h::open(1, b"/scan/a")), 0xCB);
+    assert_eq!(cabinet.code(&h::open(2, b"/flash/verify")), 0xCB);
+    assert_eq!(cabinet.code(&h::open(2, b"/flash/update")), 0xCB);
+    assert_eq!(cabinet.code(&h::stat(b"/flash/verify")), 0xCB);
+    assert_eq!(cabinet.code(&h::stat(b"/scan/a")), 0xCB);
+    assert_eq!(cabinet.code(&h::stat(b"x")), 0xCB);
+    assert_eq!(cabinet.code(&h::delete(b"/scan/a")), 0xCB);
+    assert_eq!(cabinet.code(&h::delete(b"x")), 0xCB);
+    assert_eq!(cabinet.code(&h::read(0, 0, 0)), 0xCB);
+    assert_eq!(cabinet.code(&h::write(0, 0, &[])), 0xCB);
+    assert_eq!(cabinet.code(&h::commit_with(0, 9, &[])), 0xCB);
+    assert_eq!(cabinet.code(&h::close(0)), 0xCB);
+    assert_eq!(cabinet.code(&h::session_stat(0)), 0xCB);
+    assert_eq!(cabinet.code(&h::write_meta(0, 0, &[])), 0xCB);
+}
+
+#[test]
+fn c9_ranges() {
+    let mut cabinet = Cabinet::fresh();
+    assert_eq!(cabinet.code(&h::enumerate(3)), 0);
+    for index in [4, 5, 256, u32::MAX] {
+        assert_eq!(cabinet.code(&h::enumerate(index)), 0xC9);
+    }
+    let session = cabinet.open(2, "/flash/hash");
+    assert_eq!(cabinet.code(&h::write(session, 1, &[])), 0xC9);
+    assert_eq!(cabinet.code(&h::write(session, u32::MAX, &[1])), 0xC9);
+}
+
+#[test]
+fn c8_capacities() {
+    for (flags, name, capacity) in [
+        (3, "/scan/a", 4096),
+        (2, "/flash/image", 16_384),
+        (2, "/flash/hash", 64),
+    ] {
+        let mut cabinet = Cabinet::fresh();
+        let session = cabinet.open(flags, name);
+        cabinet.fill(session, capacity);
+        assert_eq!(cabinet.code(&h::write(session, capacity, &[])), 0);
+        assert_eq!(cabinet.code(&h::write(session, capacity, &[1])), 0xC8);
+        assert_eq!(cabinet.code(&h::write(session, capacity - 1, &[1, 2])), 0xC8);
+        assert_eq!(cabinet.code(&h::write(session, capacity + 1, &[])), 0xC9);
+        assert_eq!(cabinet.session_stat(session).1, capacity);
+    }
+}
+
+#[test]
+fn c4_no_space() {
+    let mut cabinet = Cabinet::fresh();
+    for number in 0..16 {
+        cabinet.open(3, &format!("/scan/n{number}"));
+    }
+    assert_eq!(cabinet.code(&h::open(2, b"/flash/image")), 0xC4);
+    assert_eq!(cabinet.code(&h::open(3, b"/scan/x")), 0xC4);
+    assert_eq!(cabinet.code(&h::commit(5)), 0);
+    assert_eq!(cabinet.code(&h::close(5)), 0);
+    // A free row but no free slot; the held name can be opened again.
+    assert_eq!(cabinet.code(&h::open(3, b"/scan/x")), 0xC4);
+    assert_eq!(cabinet.open(1, "/scan/n5"), 16);
+    assert_eq!(cabinet.memory.row(5).identifier, 16);
+}
+
+#[test]
+fn c0_busy() {
+    let mut cabinet = Cabinet::fresh();
+    cabinet.open(3, "/scan/a");
+    assert_eq!(cabinet.code(&h::open(1, b"/scan/a")), 0xC0);
+    assert_eq!(cabinet.code(&h::open(3, b"/scan/a")), 0xC0);
+    assert_eq!(cabinet.code(&h::delete(b"/scan/a")), 0xC0);
+    let image = cabinet.open(2, "/flash/image");
+    for name in ["/flash/image", "/flash/hash", "/flash/verify", "/flash/cleanup"] {
+        assert_eq!(cabinet.code(&h::open(2, name.as_bytes())), 0xC0);
+    }
+    // Update is not listed: absence comes before busy.
+    assert_eq!(cabinet.code(&h::open(2, b"/flash/update")), 0xCB);
+    assert_eq!(cabinet.code(&h::close(image)), 0);
+    let verify = cabinet.open(2, "/flash/verify");
+    assert_eq!(cabinet.code(&h::commit(verify)), 0);
+    assert_eq!(cabinet.code(&h::close(verify)), 0xC0);
+}
+
+#[test]
+fn d5_not_supported() {
+    let mut cabinet = Cabinet::fresh();
+    let session = cabinet.open(3, "/scan/a");
+    assert_eq!(cabinet.code(&h::write_meta(session, 0, &[])), 0xD5);
+    assert_eq!(cabinet.code(&h::commit(session)), 0);
+    assert_eq!(cabinet.code(&h::close(session)), 0);
+    let reader = cabinet.open(1, "/scan/a");
+    assert_eq!(cabinet.code(&h::write(reader, u32::MAX, &[1])), 0xD5);
+    assert_eq!(cabinet.code(&h::commit(reader)), 0xD5);
+    for name in [
+        "/scan/",
+        "/flash/image",
+        "/flash/hash",
+        "/flash/verify",
+        "/flash/update",
+        "/flash/cleanup",
+    ] {
+        assert_eq!(cabinet.code(&h::delete(name.as_bytes())), 0xD5);
+    }
+    for name in ["/flash/image", "/flash/hash"] {
+        let session = cabinet.open(2, name);
+        assert_eq!(cabinet.code(&h::read(session, 0, 0)), 0xD5);
+        assert_eq!(cabinet.code(&h::commit(session)), 0xD5);
+        assert_eq!(cabinet.code(&h::close(session)), 0);
+    }
+    for name in ["/flash/verify", "/flash/cleanup"] {
+        let session = cabinet.open(2, name);
+        assert_eq!(cabinet.code(&h::read(session, 0, 0)), 0xD5);
+        assert_eq!(cabinet.code(&h::write(session, 0, &[])), 0xD5);
+        assert_eq!(cabinet.outcome(true), 0xD5);
+        assert_eq!(cabinet.code(&h::close(session)), 0);
+    }
+    assert_eq!(cabinet.outcome(false), 0xD5);
+}
+
+// ---- The commands ----
+
+#[test]
+fn store_session_from_start_to_end() {
+    let mut cabinet = Cabinet::fresh();
+    let session = cabinet.open(3, "/scan/a");
+    assert_eq!(cabinet.stat("/scan/a"), (3, 0));
+    assert_eq!(cabinet.count(), 4);
+    cabinet.fill(session, 100);
+    assert_eq!(cabinet.stat("/scan/a"), (3, 100));
+    assert_eq!(cabinet.code(&h::commit(session)), 0);
+    assert_eq!(cabinet.stat("/scan/a"), (3 | 8, 100));
+    assert_eq!(cabinet.listed()[1], "/scan/a");
+    assert_eq!(cabinet.code(&h::write(session, 100, &[])), 0);
+    assert_eq!(cabinet.session_stat(session), (3 | 8, 100));
+    assert_eq!(cabinet.code(&h::write(session, 100, &[1])), 0);
+    assert_eq!(cabinet.session_stat(session), (3, 101));
+    assert_eq!(cabinet.code(&h::close(session)), 0);
+    // What was not committed is gone.
+    assert_eq!(cabinet.stat("/scan/a"), (8, 100));
+    assert!(cabinet.memory.staged.iter().all(|byte| *byte == 0));
+    let reader = cabinet.open(1, "/scan/a");
+    assert_eq!(cabinet.session_stat(reader), (1 | 8, 100));
+    assert_eq!(cabinet.say(&h::read(reader, 99, 9)).1[6..], [99]);
+    assert_eq!(cabinet.code(&h::close(reader)), 0);
+    let writer = cabinet.open(3, "/scan/a");
+    assert_eq!(cabinet.session_stat(writer), (3 | 8, 100));
+    assert_eq!(cabinet.memory.staged[..4096], cabinet.memory.committed[..4096]);
+    assert_eq!(cabinet.code(&h::close(writer)), 0);
+    assert_eq!(cabinet.code(&h::delete(b"/scan/a")), 0);
+    assert_eq!(cabinet.memory.control[COMMITTED_LENGTHS], 0);
+    assert_eq!(cabinet.memory.committed, OwnedMemory::fresh().committed);
+    assert_eq!(cabinet.count(), 4);
+    assert_eq!(cabinet.stat("/scan/"), (0, 0));
+}
+
+#[test]
+fn a_new_name_closed_is_gone() {
+    let mut cabinet = Cabinet::fresh();
+    let session = cabinet.open(3, "/scan/a");
+    cabinet.fill(session, 60);
+    assert_eq!(cabinet.memory.control[STAGED_LENGTHS], 60);
+    assert_eq!(cabinet.code(&h::close(session)), 0);
+    let mut fresh = OwnedMemory::fresh();
+    fresh.control[NEXT_IDENTIFIER] = 1;
+    assert_eq!(cabinet.memory, fresh);
+}
+
+/// Runs the flash sequence up to a verified image.
+fn verified() -> Cabinet {
+    let mut cabinet = Cabinet::fresh();
+    for (name, length) in [("/flash/image", 200), ("/flash/hash", 32)] {
+        let session = cabinet.open(2, name);
+        cabinet.fill(session, length);
+        assert_eq!(cabinet.stat(name), (2, length));
+        assert_eq!(cabinet.code(&h::close(session)), 0);
+        assert_eq!(cabinet.stat(name), (0, length));
+    }
+    assert_eq!(cabinet.listed()[3], "/flash/verify");
+    let session = cabinet.open(2, "/flash/verify");
+    assert_eq!(cabinet.session_stat(session), (2, 0));
+    assert_eq!(cabinet.code(&h::commit(session)), 0);
+    assert_eq!(cabinet.session_stat(session), (2 | 4, 0));
+    assert_eq!(cabinet.outcome(false), 0);
+    assert_eq!(cabinet.session_stat(session), (2 | 16, 0));
+    assert_eq!(cabinet.code(&h::commit(session)), 0);
+    assert_eq!(cabinet.outcome(true), 0);
+    assert_eq!(cabinet.session_stat(session), (2 | 8, 0));
+    assert_eq!(cabinet.code(&h::commit(session)), 0);
+    assert_eq!(cabinet.stat("/flash/verify"), (2 | 8, 0));
+    assert_eq!(cabinet.memory.control[PHASE], 1);
+    assert_eq!(cabinet.code(&h::close(session)), 0);
+    assert_eq!(cabinet.memory.control[PHASE], 2);
+    assert_eq!(cabinet.count(), 6);
+    assert_eq!(cabinet.listed()[4], "/flash/update");
+    cabinet
+}
+
+#[test]
+fn flash_update() {
+    let mut cabinet = verified();
+    let session = cabinet.open(2, "/flash/update");
+    assert_eq!(cabinet.code(&h::commit(session)), 0);
+    assert_eq!(cabinet.code(&h::close(session)), 0xC0);
+    assert_eq!(cabinet.outcome(true), 0);
+    assert_eq!(cabinet.code(&h::close(session)), 0);
+    assert_eq!(cabinet.memory.control[PHASE], 0);
+    assert_eq!(cabinet.memory.image, OwnedMemory::fresh().image);
+    assert_eq!(cabinet.memory.hash, OwnedMemory::fresh().hash);
+    assert_eq!(cabinet.stat("/flash/image"), (0, 0));
+    assert_eq!(cabinet.count(), 4);
+}
+
+#[test]
+fn flash_update_failed() {
+    let mut cabinet = verified();
+    let session = cabinet.open(2, "/flash/update");
+    assert_eq!(cabinet.code(&h::commit(session)), 0);
+    assert_eq!(cabinet.outcome(false), 0);
+    assert_eq!(cabinet.code(&h::close(session)), 0);
+    assert_eq!(cabinet.memory.control[PHASE], 1);
+    assert_eq!(cabinet.stat("/flash/image"), (0, 200));
+}
+
+#[test]
+fn flash_verify_tried_anew_leaves_verified() {
+    let mut cabinet = verified();
+    let session = cabinet.open(2, "/flash/verify");
+    assert_eq!(cabinet.memory.control[PHASE], 2);
+    assert_eq!(cabinet.code(&h::commit(session)), 0);
+    assert_eq!(cabinet.memory.control[PHASE], 1);
+    assert_eq!(cabinet.outcome(false), 0);
+    assert_eq!(cabinet.code(&h::close(session)), 0);
+    assert_eq!(cabinet.memory.control[PHASE], 1);
+}
+
+#[test]
+fn flash_cleanup() {
+    let mut cabinet = verified();
+    let session = cabinet.open(2, "/flash/cleanup");
+    assert_eq!(cabinet.memory.control[PHASE], 2);
+    assert_eq!(cabinet.code(&h::commit(session)), 0);
+    assert_eq!(cabinet.session_stat(session), (2 | 8, 0));
+    assert_eq!(cabinet.memory.control[PHASE], 0);
+    assert_eq!(cabinet.stat("/flash/image"), (0, 0));
+    assert_eq!(cabinet.code(&h::close(session)), 0);
+    assert_eq!(cabinet.count(), 4);
+}
+
+#[test]
+fn a_running_job_is_not_swept() {
+    let mut cabinet = Cabinet::fresh();
+    let image = cabinet.open(2, "/flash/image");
+    assert_eq!(cabinet.code(&h::close(image)), 0);
+    let verify = cabinet.open(2, "/flash/verify");
+    assert_eq!(cabinet.code(&h::commit(verify)), 0);
+    cabinet.clock = 10_000;
+    assert_eq!(cabinet.code(&h::open(2, b"/flash/hash")), 0xC0);
+    assert_eq!(cabinet.outcome(true), 0);
+    // No stamp changed, so the next sweep closes it, and the image is verified.
+    cabinet.clock = 10_060;
+    assert_eq!(cabinet.code(&h::open(1, b"/scan/none")), 0xCB);
+    assert_eq!(cabinet.code(&h::session_stat(verify)), 0xCB);
+    assert_eq!(cabinet.memory.control[PHASE], 2);
+}
+
+#[test]
+fn no_memory_makes_it_panic() {
+    let mut random = h::Random::new(3);
+    let mut memory = OwnedMemory::fresh();
+    for _ in 0..2000 {
+        let mut any = |most: u64| random.below(most) as usize;
+        let lengths = [
+            any(50),
+            any(70),
+            any(600),
+            any(70_000),
+            any(70_000),
+            any(20_000),
+            any(70),
+            any(70),
+            any(70),
+        ];
+        memory.control = (0..lengths[0]).map(|_| random.word()).collect();
+        memory.table = (0..lengths[1]).map(|_| random.word()).collect();
+        memory.names = random.bytes(lengths[2]);
+        memory.committed.resize(lengths[3], 9);
+        memory.staged.resize(lengths[4], 9);
+        memory.image.resize(lengths[5], 9);
+        memory.hash.resize(lengths[6], 9);
+        let mut answer = random.bytes(lengths[7]);
+        let request = random.bytes(lengths[8]);
+        assert_eq!(Second.respond(&request, random.word(), &mut memory, &mut answer), 0xFF);
+        assert_eq!(Second.job_outcome(true, &mut memory), 0xFF);
+    }
+}
+
+// ---- Errors an honest builder makes ----
+
+#[test]
+fn error_1_first_letters() {
+    let mut cabinet = Cabinet::fresh();
+    let session = cabinet.open(3, "/scan/moreau");
+    assert_eq!(cabinet.code(&h::commit(session)), 0);
+    assert_eq!(cabinet.code(&h::stat(b"/scan/moreau2")), 0xCB);
+    assert_eq!(cabinet.code(&h::stat(b"/scan/morea")), 0xCB);
+    assert_eq!(cabinet.code(&h::stat(b"/scan/Moreau")), 0xCB);
+    assert_eq!(cabinet.code(&h::open(1, b"/scan/moreau2")), 0xCB);
+}
+
+#[test]
+fn error_2_closed_identifier() {
+    let mut cabinet = Cabinet::fresh();
+    let first = cabinet.open(3, "/scan/a");
+    assert_eq!(cabinet.code(&h::close(first)), 0);
+    assert_ne!(cabinet.open(3, "/scan/a"), first);
+}
+
+#[test]
+fn error_3_image_opened_anew() {
+    let mut cabinet = verified();
+    cabinet.open(2, "/flash/image");
+    assert_eq!(cabinet.memory.control[PHASE], 1);
+    assert_eq!(cabinet.stat("/flash/image"), (2, 0));
+    assert_eq!(cabinet.stat("/flash/hash"), (0, 32));
+    assert_eq!(cabinet.code(&h::stat(b"/flash/update")), 0xCB);
+}
+
+#[test]
+fn error_4_shared_time() {
+    let mut cabinet = Cabinet::fresh();
+    let early = cabinet.open(3, "/scan/a");
+    let late = cabinet.open(3, "/scan/b");
+    cabinet.clock = 500;
+    cabinet.session_stat(late);
+    cabinet.clock = 20;
+    cabinet.session_stat(early);
+    cabinet.session_stat(late);
+    assert_eq!((cabinet.memory.row(0).stamp, cabinet.memory.row(1).stamp), (20, 500));
+}

@@ -1,0 +1,543 @@
+//! Named breakers: each breaks one clause of soundness alone. A breaker gives `false` if the state offers no place for
+//! it; another state is tried then.
+
+use second::harness::{OwnedMemory, Random};
+use second::names::{pad, Flash};
+use second::state::{
+    Row, COMMITTED_LENGTHS, FLAGS_FLASH, FLAGS_READ, FLAGS_READ_WRITE, HASH_LENGTH, IMAGE_LENGTH, NEXT_IDENTIFIER,
+    PHASE, ROWS_USED, SLOTS_COMMITTED, SLOTS_USED, SLOT_CAPACITY, STAGED_LENGTHS,
+};
+
+pub type Breaker = fn(&mut Random, &mut OwnedMemory) -> bool;
+
+pub const BREAKERS: &[(&str, Breaker)] = &[
+    // "Masks and next identifier are below 65,536", and the phase is one of three.
+    ("rows mask too large", |r, m| high_bit(r, &mut m.control[ROWS_USED])),
+    ("slots mask too large", |r, m| high_bit(r, &mut m.control[SLOTS_USED])),
+    ("committed mask too large", |r, m| {
+        high_bit(r, &mut m.control[SLOTS_COMMITTED])
+    }),
+    ("next identifier too large", |r, m| {
+        high_bit(r, &mut m.control[NEXT_IDENTIFIER])
+    }),
+    ("phase unknown", phase_unknown),
+    // "Lengths fit."
+    ("committed length too large", |r, m| {
+        match a_slot(r, m, |m, slot| m.slot_committed(slot)) {
+            Some(slot) => too_long(r, &mut m.control[COMMITTED_LENGTHS + slot], 4096),
+            None => false,
+        }
+    }),
+    ("staged length too large", |r, m| match a_slot(r, m, has_writing_row) {
+        Some(slot) => too_long(r, &mut m.control[STAGED_LENGTHS + slot], 4096),
+        None => false,
+    }),
+    ("image length too large", |r, m| {
+        m.control[PHASE] != 0 && too_long(r, &mut m.control[IMAGE_LENGTH], 16_384)
+    }),
+    ("hash length too large", |r, m| {
+        m.control[PHASE] != 0 && too_long(r, &mut m.control[HASH_LENGTH], 64)
+    }),
+    // "Unused rows and unused slots (name, committed mark, lengths, regions) are zero."
+    ("unused row with identifier", |r, m| unused_row(r, m, 0)),
+    ("unused row with blob", |r, m| unused_row(r, m, 1)),
+    ("unused row with bits", |r, m| unused_row(r, m, 2)),
+    ("unused row with stamp", |r, m| unused_row(r, m, 3)),
+    ("unused slot with name", |r, m| match a_free_slot(r, m) {
+        Some(slot) => nonzero(r, m.name_mut(slot)),
+        None => false,
+    }),
+    ("unused slot with whole name", |r, m| match a_free_slot(r, m) {
+        Some(slot) => set_name(m, slot, b"/scan/free"),
+        None => false,
+    }),
+    ("unused slot committed", |r, m| match a_free_slot(r, m) {
+        Some(slot) => set(&mut m.control[SLOTS_COMMITTED], |mask| mask | 1 << slot),
+        None => false,
+    }),
+    ("unused slot with committed length", |r, m| match a_free_slot(r, m) {
+        Some(slot) => some_length(r, &mut m.control[COMMITTED_LENGTHS + slot]),
+        None => false,
+    }),
+    ("unused slot with staged length", |r, m| match a_free_slot(r, m) {
+        Some(slot) => some_length(r, &mut m.control[STAGED_LENGTHS + slot]),
+        None => false,
+    }),
+    ("unused slot with committed byte", |r, m| match a_free_slot(r, m) {
+        Some(slot) => nonzero(r, &mut m.committed[region(slot)]),
+        None => false,
+    }),
+    ("unused slot with staged byte", |r, m| match a_free_slot(r, m) {
+        Some(slot) => nonzero(r, &mut m.staged[region(slot)]),
+        None => false,
+    }),
+    ("unused slot with last staged byte", |r, m| match a_free_slot(r, m) {
+        Some(slot) => set(&mut m.staged[region(slot)][SLOT_CAPACITY - 1], |_| 1),
+        None => false,
+    }),
+    // "Used slots have different store names padded by zeros."
+    ("name all zero", |r, m| rename(r, m, b"")),
+    ("name is the base", |r, m| rename(r, m, b"/scan/")),
+    ("name is flash", |r, m| rename(r, m, b"/flash/image")),
+    ("name with other prefix", |r, m| rename(r, m, b"/scam/abc")),
+    ("name with other case of prefix", |r, m| rename(r, m, b"/Scan/abc")),
+    ("name without slash", |r, m| rename(r, m, b"/scanabc")),
+    ("name with a slash within", |r, m| rename(r, m, b"/scan/a/b")),
+    ("name with a sign below 0", |r, m| rename(r, m, b"/scan/a/")),
+    ("name with a sign above 9", |r, m| rename(r, m, b"/scan/a:")),
+    ("name with a sign below A", |r, m| rename(r, m, b"/scan/a@")),
+    ("name with a sign above Z", |r, m| rename(r, m, b"/scan/a[")),
+    ("name with a sign below a", |r, m| rename(r, m, b"/scan/a`")),
+    ("name with a sign above z", |r, m| rename(r, m, b"/scan/a{")),
+    ("name with a byte over 127", |r, m| rename(r, m, b"/scan/a\xE1")),
+    ("name of 26 without NUL", |r, m| {
+        rename(r, m, b"/scan/abcdefghijklmnopqrstuvwxyz")
+    }),
+    ("rubbish behind the NUL", rubbish_behind_name),
+    ("two slots with the same name", same_names),
+    // "Used rows have different identifiers up to 65,535 and different blobs up to 20, each slot named being in use."
+    ("identifier too large", |r, m| {
+        change_row(r, m, any_row, |r, row| row.identifier += 65_536 << r.below(15))
+    }),
+    ("two rows with the same identifier", same_identifiers),
+    ("blob too large", |r, m| {
+        change_row(
+            r,
+            m,
+            |_, row| row.flash().is_some(),
+            |r, row| {
+                row.blob = r
+                    .clone()
+                    .pick(&[21, 22, 31, 32, 255, 256 + row.blob, 65_536 + row.blob, u32::MAX]);
+            },
+        )
+    }),
+    ("two rows with the same slot", same_slots),
+    ("row of an unused slot", row_of_unused_slot),
+    ("writing row of an unused slot", writing_row_of_unused_slot),
+    // "At most one row is flash", also of the same kind (reading 17: that breaks two clauses).
+    ("image and hash rows", |r, m| {
+        two_flash(r, m, 1, (Flash::Image, 0), (Flash::Hash, 0))
+    }),
+    ("verify and cleanup rows", |r, m| {
+        two_flash(r, m, 1, (Flash::Verify, 2), (Flash::Cleanup, 0))
+    }),
+    ("verify and update rows", |r, m| {
+        two_flash(r, m, 2, (Flash::Verify, 0), (Flash::Update, 3))
+    }),
+    ("two cleanup rows", |r, m| {
+        two_flash(r, m, 0, (Flash::Cleanup, 0), (Flash::Cleanup, 0))
+    }),
+    // "Flags are allowed."
+    ("store row with flags 0", |r, m| {
+        change_row(r, m, is_store, |_, row| row.flags = 0)
+    }),
+    ("read-only row with flags 2", |r, m| {
+        change_row(r, m, is_read_only, |_, row| row.flags = 2)
+    }),
+    ("writing row with flags 2", |r, m| {
+        change_row(r, m, is_writing, |_, row| row.flags = 2)
+    }),
+    ("store row with more flags", |r, m| {
+        change_row(r, m, is_store, |r, row| row.flags |= 4 << r.below(14))
+    }),
+    ("flash row with flags 0", |r, m| {
+        change_row(r, m, is_flash, |_, row| row.flags = 0)
+    }),
+    ("flash row with flags 1", |r, m| {
+        change_row(r, m, is_flash, |_, row| row.flags = 1)
+    }),
+    ("flash row with flags 3", |r, m| {
+        change_row(r, m, is_flash, |_, row| row.flags = 3)
+    }),
+    ("flash row with more flags", |r, m| {
+        change_row(r, m, is_flash, |r, row| row.flags |= 4 << r.below(14))
+    }),
+    // "Status is nonzero only on verify, update (1-3) and cleanup (2)."
+    ("status on a store row", |r, m| {
+        change_row(r, m, is_store, |r, row| row.status = r.between(1, 3) as u32)
+    }),
+    ("status on an image row", |r, m| {
+        status_on(r, m, Flash::Image, &[1, 2, 3])
+    }),
+    ("status on a hash row", |r, m| status_on(r, m, Flash::Hash, &[1, 2, 3])),
+    ("cleanup running", |r, m| status_on(r, m, Flash::Cleanup, &[1])),
+    ("cleanup failed", |r, m| status_on(r, m, Flash::Cleanup, &[3])),
+    // "Remaining bits are zero."
+    ("remaining bits", |r, m| {
+        change_row(r, m, any_row, |r, row| row.remaining = 1 << r.below(13))
+    }),
+    // "A used slot not committed has committed length 0 and a writing row; staged length is 0 without one."
+    ("committed length of a new slot", |r, m| {
+        match a_slot(r, m, |m, slot| !m.slot_committed(slot)) {
+            Some(slot) => some_length(r, &mut m.control[COMMITTED_LENGTHS + slot]),
+            None => false,
+        }
+    }),
+    ("new slot without row", new_slot_without_row),
+    ("new slot with a read-only row, clean", |r, m| {
+        new_slot_read_only(r, m, true)
+    }),
+    ("new slot with a read-only row, not clean", |r, m| {
+        new_slot_read_only(r, m, false)
+    }),
+    ("slot without row, not committed", |r, m| {
+        match a_slot(r, m, |m, slot| m.row_of_slot(slot).is_none()) {
+            Some(slot) => {
+                m.control[COMMITTED_LENGTHS + slot] = 0;
+                set(&mut m.control[SLOTS_COMMITTED], |mask| mask & !(1 << slot))
+            }
+            None => false,
+        }
+    }),
+    ("staged length without row", |r, m| {
+        match a_slot(r, m, |m, slot| m.row_of_slot(slot).is_none()) {
+            Some(slot) => some_length(r, &mut m.control[STAGED_LENGTHS + slot]),
+            None => false,
+        }
+    }),
+    ("staged length with a read-only row", |r, m| {
+        match a_slot(r, m, has_read_only_row) {
+            Some(slot) => some_length(r, &mut m.control[STAGED_LENGTHS + slot]),
+            None => false,
+        }
+    }),
+    // "Clean stands only on store rows of committed slots, and always on a read-only row."
+    ("clean flash row", |r, m| {
+        change_row(r, m, is_flash, |_, row| row.clean = true)
+    }),
+    ("clean row of a new slot", |r, m| {
+        change_row(r, m, is_new, |_, row| row.clean = true)
+    }),
+    ("read-only row not clean", |r, m| {
+        change_row(r, m, is_read_only, |_, row| row.clean = false)
+    }),
+    // "Image or hash row: Uploading. Verify row: not Idle, and Uploading if tried. Update row: Verified. Cleanup row at
+    // 2: Idle."
+    ("image row in Idle", |r, m| flash_row(r, m, 0, Flash::Image, 0)),
+    ("image row in Verified", |r, m| flash_row(r, m, 2, Flash::Image, 0)),
+    ("hash row in Idle", |r, m| flash_row(r, m, 0, Flash::Hash, 0)),
+    ("hash row in Verified", |r, m| flash_row(r, m, 2, Flash::Hash, 0)),
+    ("verify row in Idle", |r, m| flash_row(r, m, 0, Flash::Verify, 0)),
+    ("verify row running in Verified", |r, m| {
+        flash_row(r, m, 2, Flash::Verify, 1)
+    }),
+    ("verify row succeeded in Verified", |r, m| {
+        flash_row(r, m, 2, Flash::Verify, 2)
+    }),
+    ("verify row failed in Verified", |r, m| {
+        flash_row(r, m, 2, Flash::Verify, 3)
+    }),
+    ("update row in Idle", |r, m| any_status(r, m, 0, Flash::Update)),
+    ("update row in Uploading", |r, m| any_status(r, m, 1, Flash::Update)),
+    ("cleanup row at 2 in Uploading", |r, m| {
+        flash_row(r, m, 1, Flash::Cleanup, 2)
+    }),
+    ("cleanup row at 2 in Verified", |r, m| {
+        flash_row(r, m, 2, Flash::Cleanup, 2)
+    }),
+    // "In Idle both flash lengths are 0."
+    ("image length in Idle", |r, m| {
+        m.control[PHASE] == 0 && some_length(r, &mut m.control[IMAGE_LENGTH])
+    }),
+    ("hash length in Idle", |r, m| {
+        m.control[PHASE] == 0 && set(&mut m.control[HASH_LENGTH], |_| r.between(1, 64) as u32)
+    }),
+];
+
+fn set<T: Copy>(place: &mut T, change: impl FnOnce(T) -> T) -> bool {
+    *place = change(*place);
+    true
+}
+
+fn high_bit(random: &mut Random, word: &mut u32) -> bool {
+    set(word, |word| word | 65_536 << random.below(16))
+}
+
+fn phase_unknown(random: &mut Random, memory: &mut OwnedMemory) -> bool {
+    let phase = memory.control[PHASE];
+    let numbers = [3, 4, 255, 256, 256 + phase, 65_536 + phase, u32::MAX];
+    set(&mut memory.control[PHASE], |_| random.pick(&numbers))
+}
+
+fn too_long(random: &mut Random, length: &mut u32, capacity: u32) -> bool {
+    let more = random.below(1000) as u32;
+    let numbers = [
+        capacity + 1,
+        capacity + 1,
+        capacity + 1 + more,
+        1 << 31,
+        65_536,
+        u32::MAX,
+    ];
+    set(length, |_| random.pick(&numbers))
+}
+
+fn some_length(random: &mut Random, length: &mut u32) -> bool {
+    set(length, |_| random.between(1, 4096) as u32)
+}
+
+fn nonzero(random: &mut Random, bytes: &mut [u8]) -> bool {
+    let place = random.below(bytes.len() as u64) as usize;
+    set(&mut bytes[place], |_| 1 << random.below(8))
+}
+
+fn region(slot: usize) -> std::ops::Range<usize> {
+    slot * SLOT_CAPACITY..(slot + 1) * SLOT_CAPACITY
+}
+
+// ---- Choosing slots and rows ----
+
+fn a_slot(random: &mut Random, memory: &OwnedMemory, wanted: fn(&OwnedMemory, usize) -> bool) -> Option<usize> {
+    let slots: Vec<usize> = memory
+        .used_slots()
+        .into_iter()
+        .filter(|slot| wanted(memory, *slot))
+        .collect();
+    (!slots.is_empty()).then(|| random.pick(&slots))
+}
+
+fn a_free_slot(random: &mut Random, memory: &OwnedMemory) -> Option<usize> {
+    let slots = memory.free_slots();
+    (!slots.is_empty()).then(|| random.pick(&slots))
+}
+
+fn has_writing_row(memory: &OwnedMemory, slot: usize) -> bool {
+    memory
+        .row_of_slot(slot)
+        .is_some_and(|row| memory.row(row).flags == FLAGS_READ_WRITE)
+}
+
+fn has_read_only_row(memory: &OwnedMemory, slot: usize) -> bool {
+    memory
+        .row_of_slot(slot)
+        .is_some_and(|row| memory.row(row).flags == FLAGS_READ)
+}
+
+fn any_row(_: &OwnedMemory, _: &Row) -> bool {
+    true
+}
+
+fn is_store(_: &OwnedMemory, row: &Row) -> bool {
+    row.slot().is_some()
+}
+
+fn is_flash(_: &OwnedMemory, row: &Row) -> bool {
+    row.flash().is_some()
+}
+
+fn is_writing(_: &OwnedMemory, row: &Row) -> bool {
+    row.is_writing_store()
+}
+
+fn is_read_only(_: &OwnedMemory, row: &Row) -> bool {
+    row.slot().is_some() && row.flags == FLAGS_READ
+}
+
+fn is_new(memory: &OwnedMemory, row: &Row) -> bool {
+    row.slot().is_some_and(|slot| !memory.slot_committed(slot))
+}
+
+fn change_row(
+    random: &mut Random,
+    memory: &mut OwnedMemory,
+    wanted: fn(&OwnedMemory, &Row) -> bool,
+    change: impl FnOnce(&mut Random, &mut Row),
+) -> bool {
+    let rows: Vec<usize> = memory
+        .used_rows()
+        .into_iter()
+        .filter(|row| wanted(memory, &memory.row(*row)))
+        .collect();
+    if rows.is_empty() {
+        return false;
+    }
+    let place = random.pick(&rows);
+    let mut row = memory.row(place);
+    change(random, &mut row);
+    memory.set_row(place, &row);
+    true
+}
+
+fn unused_row(random: &mut Random, memory: &mut OwnedMemory, word: usize) -> bool {
+    let rows = memory.free_rows();
+    if rows.is_empty() {
+        return false;
+    }
+    let place = random.pick(&rows) * 4 + word;
+    set(&mut memory.table[place], |_| 1 << random.below(32))
+}
+
+// ---- Names ----
+
+fn set_name(memory: &mut OwnedMemory, slot: usize, name: &[u8]) -> bool {
+    memory.name_mut(slot).copy_from_slice(&pad(name));
+    true
+}
+
+fn rename(random: &mut Random, memory: &mut OwnedMemory, name: &[u8]) -> bool {
+    match a_slot(random, memory, |_, _| true) {
+        Some(slot) => set_name(memory, slot, name),
+        None => false,
+    }
+}
+
+fn rubbish_behind_name(random: &mut Random, memory: &mut OwnedMemory) -> bool {
+    let Some(slot) = a_slot(random, memory, |m, slot| m.name(slot)[30] == 0) else {
+        return false;
+    };
+    let name = memory.name_mut(slot);
+    let nul = name.iter().position(|byte| *byte == 0).expect("a NUL");
+    let place = random.between(nul as u64 + 1, 31) as usize;
+    set(&mut name[place], |_| b'a')
+}
+
+fn same_names(random: &mut Random, memory: &mut OwnedMemory) -> bool {
+    let mut slots = memory.used_slots();
+    if slots.len() < 2 {
+        return false;
+    }
+    random.shuffle(&mut slots);
+    let name = memory.name(slots[0]).to_vec();
+    memory.name_mut(slots[1]).copy_from_slice(&name);
+    true
+}
+
+// ---- Rows ----
+
+fn same_identifiers(random: &mut Random, memory: &mut OwnedMemory) -> bool {
+    let mut rows = memory.used_rows();
+    if rows.len() < 2 {
+        return false;
+    }
+    random.shuffle(&mut rows);
+    memory.table[rows[0] * 4] = memory.table[rows[1] * 4];
+    true
+}
+
+/// Fills a free row with an identifier that no row has.
+fn add_row(random: &mut Random, memory: &mut OwnedMemory, row: Row) -> bool {
+    let free = memory.free_rows();
+    if free.is_empty() {
+        return false;
+    }
+    let identifiers: Vec<u32> = memory
+        .used_rows()
+        .into_iter()
+        .map(|row| memory.row(row).identifier)
+        .collect();
+    let identifier = (0..65_536)
+        .find(|number| !identifiers.contains(number))
+        .expect("an unused identifier");
+    let place = random.pick(&free);
+    memory.set_row(place, &Row { identifier, ..row });
+    memory.control[ROWS_USED] |= 1 << place;
+    true
+}
+
+fn new_row(blob: u32, flags: u32, status: u32, clean: bool) -> Row {
+    Row {
+        identifier: 0,
+        blob,
+        flags,
+        status,
+        clean,
+        remaining: 0,
+        stamp: 7,
+    }
+}
+
+fn same_slots(random: &mut Random, memory: &mut OwnedMemory) -> bool {
+    match a_slot(random, memory, has_read_only_row) {
+        Some(slot) => add_row(random, memory, new_row(slot as u32, FLAGS_READ, 0, true)),
+        None => false,
+    }
+}
+
+fn row_of_unused_slot(random: &mut Random, memory: &mut OwnedMemory) -> bool {
+    match a_free_slot(random, memory) {
+        Some(slot) => add_row(random, memory, new_row(slot as u32, FLAGS_READ, 0, false)),
+        None => false,
+    }
+}
+
+fn writing_row_of_unused_slot(random: &mut Random, memory: &mut OwnedMemory) -> bool {
+    match a_free_slot(random, memory) {
+        Some(slot) => add_row(random, memory, new_row(slot as u32, FLAGS_READ_WRITE, 0, false)),
+        None => false,
+    }
+}
+
+fn new_slot_without_row(random: &mut Random, memory: &mut OwnedMemory) -> bool {
+    let Some(slot) = a_slot(random, memory, |m, slot| !m.slot_committed(slot)) else {
+        return false;
+    };
+    memory.control[STAGED_LENGTHS + slot] = 0;
+    let row = memory.row_of_slot(slot).expect("a new slot has a row");
+    free_row(memory, row)
+}
+
+fn new_slot_read_only(random: &mut Random, memory: &mut OwnedMemory, clean: bool) -> bool {
+    let Some(slot) = a_slot(random, memory, |m, slot| !m.slot_committed(slot)) else {
+        return false;
+    };
+    memory.control[STAGED_LENGTHS + slot] = 0;
+    let place = memory.row_of_slot(slot).expect("a new slot has a row");
+    let row = memory.row(place);
+    memory.set_row(
+        place,
+        &Row {
+            flags: FLAGS_READ,
+            clean,
+            ..row
+        },
+    );
+    true
+}
+
+fn free_row(memory: &mut OwnedMemory, row: usize) -> bool {
+    memory.table[row * 4..row * 4 + 4].fill(0);
+    memory.control[ROWS_USED] &= !(1 << row);
+    true
+}
+
+// ---- Flash rows ----
+
+fn status_on(random: &mut Random, memory: &mut OwnedMemory, flash: Flash, statuses: &[u32]) -> bool {
+    let phase = if flash == Flash::Cleanup {
+        memory.control[PHASE]
+    } else {
+        1
+    };
+    let status = random.pick(statuses);
+    flash_row(random, memory, phase, flash, status)
+}
+
+fn any_status(random: &mut Random, memory: &mut OwnedMemory, phase: u32, flash: Flash) -> bool {
+    let status = random.below(4) as u32;
+    flash_row(random, memory, phase, flash, status)
+}
+
+/// Makes this the only flash row, in this phase, with lengths that fit the phase.
+fn flash_row(random: &mut Random, memory: &mut OwnedMemory, phase: u32, flash: Flash, status: u32) -> bool {
+    if let Some(row) = memory.flash_row() {
+        free_row(memory, row);
+    }
+    memory.control[PHASE] = phase;
+    if phase == 0 {
+        memory.control[IMAGE_LENGTH] = 0;
+        memory.control[HASH_LENGTH] = 0;
+    }
+    add_row(random, memory, new_row(flash.blob(), FLAGS_FLASH, status, false))
+}
+
+fn two_flash(
+    random: &mut Random,
+    memory: &mut OwnedMemory,
+    phase: u32,
+    one: (Flash, u32),
+    other: (Flash, u32),
+) -> bool {
+    flash_row(random, memory, phase, one.0, one.1)
+        && add_row(random, memory, new_row(other.0.blob(), FLAGS_FLASH, other.1, false))
+}

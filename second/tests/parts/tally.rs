@@ -1,0 +1,229 @@
+//! What was reached: pairs of command and completion code, situations, and how much was done.
+
+use std::collections::BTreeMap;
+
+/// The rows of the table: the eleven commands by subcommand, then these.
+pub const FRAME: usize = 11;
+pub const OUTCOME: usize = 12;
+pub const COMMANDS: [&str; 13] = [
+    "Count",
+    "Enumerate",
+    "Open",
+    "Read",
+    "Write",
+    "Commit",
+    "Close",
+    "Delete",
+    "Stat",
+    "SessionStat",
+    "WriteMeta",
+    "(frame)",
+    "Job outcome",
+];
+pub const CODES: [u8; 11] = [0x00, 0xFF, 0xC7, 0xCC, 0xC1, 0xCB, 0xC9, 0xC8, 0xC4, 0xC0, 0xD5];
+
+/// Which codes each command may give, from the paper. "(frame)" are messages that reach no subcommand up to 10: too
+/// short or too long (C7), another OEM number (CC), a subcommand over 10 (C1).
+pub const ALLOWED: [&[u8]; 13] = [
+    &[0x00, 0xFF, 0xC7],
+    &[0x00, 0xFF, 0xC7, 0xCC, 0xC9],
+    &[0x00, 0xFF, 0xC7, 0xCC, 0xCB, 0xC0, 0xC4],
+    &[0x00, 0xFF, 0xC7, 0xCC, 0xCB, 0xD5],
+    &[0x00, 0xFF, 0xC7, 0xCC, 0xCB, 0xD5, 0xC9, 0xC8],
+    &[0x00, 0xFF, 0xC7, 0xCC, 0xCB, 0xD5],
+    &[0x00, 0xFF, 0xC7, 0xCC, 0xCB, 0xC0],
+    &[0x00, 0xFF, 0xC7, 0xCC, 0xCB, 0xC0, 0xD5],
+    &[0x00, 0xFF, 0xC7, 0xCC, 0xCB],
+    &[0x00, 0xFF, 0xC7, 0xCC, 0xCB],
+    &[0xFF, 0xC7, 0xCC, 0xCB, 0xD5],
+    &[0xFF, 0xC7, 0xCC, 0xC1],
+    &[0x00, 0xFF, 0xD5],
+];
+
+/// Situations that the tests must reach, so that they are known to go deep.
+pub const SITUATIONS: &[&str] = &[
+    "16 rows used",
+    "16 slots used",
+    "16 slots committed",
+    "15 store rows beside a flash row",
+    "identifier wrapped",
+    "identifier in use skipped",
+    "Open without free row",
+    "Open without free slot",
+    "Open with wrong CRC",
+    "Open with wrong name form",
+    "Open with wrong flags",
+    "Open of a busy store name",
+    "Open of flash while flash is busy",
+    "Open of the image in Verified",
+    "Open of the hash in Verified",
+    "Commit with wrong length",
+    "Read of no byte",
+    "Read of 58 bytes",
+    "Write of no byte",
+    "Write up to the capacity of a slot",
+    "Write up to the capacity of the image",
+    "Write up to the capacity of the hash",
+    "clean cleared by Write",
+    "stamp lifted",
+    "stamp kept at an earlier clock",
+    "sweep",
+    "sweep due by exactly 60",
+    "not due by one second",
+    "stale by exactly one second",
+    "kept at exactly 600",
+    "refused Open keeps a sweep that closed",
+    "sweep near the end of the clock",
+    "sweep spares verify running",
+    "sweep spares update running",
+    "Close: store read-only",
+    "Close: store writing, committed",
+    "Close: store writing, new",
+    "Close: image",
+    "Close: hash",
+    "Close: verify untried",
+    "Close: verify succeeded",
+    "Close: verify failed",
+    "Close: update untried",
+    "Close: update succeeded",
+    "Close: update failed",
+    "Close: cleanup untried",
+    "Close: cleanup succeeded",
+    "Close refused: verify running",
+    "Close refused: update running",
+    "sweep closes: store read-only",
+    "sweep closes: store writing, committed",
+    "sweep closes: store writing, new",
+    "sweep closes: image",
+    "sweep closes: hash",
+    "sweep closes: verify untried",
+    "sweep closes: verify succeeded",
+    "sweep closes: verify failed",
+    "sweep closes: update untried",
+    "sweep closes: update succeeded",
+    "sweep closes: update failed",
+    "sweep closes: cleanup untried",
+    "sweep closes: cleanup succeeded",
+    "Commit: store writing, committed",
+    "Commit: store writing, new",
+    "Commit: verify untried",
+    "Commit: verify running",
+    "Commit: verify succeeded",
+    "Commit: verify failed",
+    "Commit: verify untried in Verified",
+    "Commit: update untried",
+    "Commit: update running",
+    "Commit: update succeeded",
+    "Commit: update failed",
+    "Commit: cleanup untried",
+    "Commit: cleanup succeeded",
+    "Outcome: verify good",
+    "Outcome: verify failed",
+    "Outcome: update good",
+    "Outcome: update failed",
+];
+
+#[derive(Clone)]
+pub struct Tally {
+    codes: Vec<[u64; 256]>,
+    situations: BTreeMap<String, u64>,
+    pub requests: u64,
+    pub states: u64,
+}
+
+impl Tally {
+    pub fn new() -> Tally {
+        Tally {
+            codes: vec![[0; 256]; COMMANDS.len()],
+            situations: BTreeMap::new(),
+            requests: 0,
+            states: 0,
+        }
+    }
+
+    pub fn count(&mut self, command: usize, code: u8) {
+        self.codes[command][usize::from(code)] += 1;
+        self.requests += 1;
+    }
+
+    pub fn situation(&mut self, name: &str) {
+        match self.situations.get_mut(name) {
+            Some(number) => *number += 1,
+            None => {
+                self.situations.insert(name.to_string(), 1);
+            }
+        }
+    }
+
+    pub fn add(&mut self, other: &Tally) {
+        for (mine, others) in self.codes.iter_mut().zip(&other.codes) {
+            for (number, more) in mine.iter_mut().zip(others) {
+                *number += more;
+            }
+        }
+        for (name, number) in &other.situations {
+            *self.situations.entry(name.clone()).or_insert(0) += number;
+        }
+        self.requests += other.requests;
+        self.states += other.states;
+    }
+
+    /// The table of commands and codes.
+    pub fn print(&self) {
+        print!("{:<12}", "");
+        for code in CODES {
+            print!("{code:>9}", code = format!("{code:02X}"));
+        }
+        println!();
+        for (command, name) in COMMANDS.iter().enumerate() {
+            print!("{name:<12}");
+            for code in CODES {
+                let number = self.codes[command][usize::from(code)];
+                let allowed = ALLOWED[command].contains(&code);
+                let text = if number == 0 && !allowed {
+                    ".".to_string()
+                } else {
+                    number.to_string()
+                };
+                print!("{text:>9}");
+            }
+            println!();
+        }
+        println!("situations:");
+        for name in SITUATIONS {
+            println!("  {:>9}  {name}", self.situations.get(*name).unwrap_or(&0));
+        }
+    }
+
+    /// What is missing, or there and not allowed.
+    pub fn gaps(&self) -> Vec<String> {
+        let mut gaps = Vec::new();
+        for (command, name) in COMMANDS.iter().enumerate() {
+            for code in 0..=255u8 {
+                let reached = self.codes[command][usize::from(code)] > 0;
+                let allowed = ALLOWED[command].contains(&code);
+                if reached != allowed {
+                    let what = if allowed {
+                        "not reached"
+                    } else {
+                        "reached but not allowed"
+                    };
+                    gaps.push(format!("{name} with code {code:02X}: {what}"));
+                }
+            }
+        }
+        let missing = SITUATIONS.iter().filter(|name| !self.situations.contains_key(**name));
+        gaps.extend(missing.map(|name| format!("situation not reached: {name}")));
+        gaps
+    }
+}
+
+/// The row of the table that a message belongs to.
+pub fn command_of(message: &[u8]) -> usize {
+    let whole = (4..=64).contains(&message.len()) && message[..3] == second::message::OEM && message[3] <= 10;
+    if whole {
+        usize::from(message[3])
+    } else {
+        FRAME
+    }
+}
