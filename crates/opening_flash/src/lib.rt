@@ -30,16 +30,15 @@ fn empty_flash(kind: FlashKind, control: Control, image: &mut [u8], hash: &mut [
     requires { ⌜ (length (now image) ≡ imageSize) × (length (now hash) ≡ hashSize) ⌝ }
     ensures { λ v. ⌜ ((table names committed staged : List ℕ) → stateOf v table names committed staged (now (image .exit)) (now (hash .exit)) ≡ inBody flash .put (openedFlash kind (stateOf control table names committed staged (now (image .entry)) (now (hash .entry)) .flashGroup)) (stateOf control table names committed staged (now (image .entry)) (now (hash .entry)))) ⌝ }
 {
+    let mut next = with_phase(control, Phase::Uploading);
     match kind {
         FlashKind::Image => {
             clear_at(image, 0, IMAGE_SIZE);
-            let mut next = with_phase(control, Phase::Uploading);
             next.image_len = 0;
             next
         }
         FlashKind::Hash => {
             clear_at(hash, 0, HASH_SIZE);
-            let mut next = with_phase(control, Phase::Uploading);
             next.hash_len = 0;
             next
         }
