@@ -124,6 +124,9 @@ fn apart_from_lower(rows: u32, table: &[u32], i: usize) -> bool
     requires { ⌜ (length (now table) ≡ rowCount * rowWords) × (i < rowCount) ⌝ }
     ensures { λ x. ⌜ ((s : State) → x ≡ all (rowsApart (withRows rows (now (table .entry)) s) i) i) ⌝ }
 {
+    if !has(rows, i) {
+        return true;
+    }
     let mut ok = true;
     for j in 0..i {
         ok = ok & rows_apart(rows, table, i, j);

@@ -2,19 +2,37 @@
 use mathlib.Core.Path.{_≡_, refl, sym, _∙_, ap}
 use mathlib.Core.Bool.{Bool, true, false, _&&_, true≢false}
 use mathlib.Core.List.{List, _++_}
-use Prim.Native.Nat.{ℕ, _+_, _-_, _≤_}
-use native.Mathlib.Nat.{add-sub-cancel-left}
+use Prim.Native.Nat.{ℕ, _+_, _*_, _-_, _≤_}
+use native.Mathlib.Nat.{add-sub-cancel-left, suc-mul}
+use native.Mathlib.Numerals.{add-one}
 use native.Mathlib.Omega.{arith}
 use lib.ListN.{length, take, drop, replicate, length-drop, take-append-drop}
-use lib.Seq.{take-all, length-take-le, drop-at}
-use Rattle.laws.specs.Bytes.{zeros, zeros-true, replicate-zeros, same, eq-same, ne-same, padded, padded-is, firstZero}
+use lib.Seq.{take-all, length-take-le, drop-at, take-add, drop-drop}
+use Rattle.laws.specs.Bytes.{zeros, zeros-true, zeros-append, replicate-zeros, same, eq-same, ne-same, padded, padded-is, firstZero}
 use Rattle.laws.specs.Ranges.{part}
-use Rattle.protocol.specs.Numbers.{nameSize}
+use Rattle.protocol.specs.Numbers.{nameSize, slotSize}
 use Rattle.protocol.specs.Names.{storeName, storeField}
 
 -- `&l[a..a + n]`
 pub cut : (a n : ℕ) (l : List ℕ) → take (a + n - a) (drop a l) ≡ part a n l
 cut a n l = rw add-sub-cancel-left
+
+-- ---- a region by blocks of 1,024 bytes: the first j from a place on are zero
+unfoldable pub blocksZero : ℕ → List ℕ → ℕ → Bool
+blocksZero at l j = zeros (part at (j * 1024) l)
+
+pub blocks-start : (at : ℕ) (l : List ℕ) → true ≡ blocksZero at l 0
+unfolding blocksZero
+blocks-start at l = sym (replicate-zeros 0)
+
+pub blocks-more : (at : ℕ) (l : List ℕ) (j : ℕ) (r q : Bool) → r ≡ blocksZero at l j → q ≡ zeros (part (at + j * 1024) 1024 l) → r && q ≡ blocksZero at l (j + 1)
+unfolding blocksZero
+blocks-more at l j r q e f =
+    rw (e, f, add-one, suc-mul, take-add (j * 1024) 1024 (drop at l), zeros-append, drop-drop (j * 1024) at l)
+
+pub blocks-end : (at : ℕ) (l : List ℕ) (j : ℕ) (r : Bool) → r ≡ blocksZero at l j → j ≡ 4 → r ≡ zeros (part at slotSize l)
+unfolding blocksZero slotSize
+blocks-end at l j r e p = rw (e, p)
 
 -- ---- a name field: the text, then zeros
 pad-zeros : (f : List ℕ) (n : ℕ) → length f ≡ nameSize → n ≤ length f → zeros (drop n f) ≡ same f (padded nameSize (take n f))

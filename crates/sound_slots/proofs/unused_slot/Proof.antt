@@ -16,17 +16,17 @@ zero-part-requires : tie.Need-zero-part-requires
 unfolding nameSize
 zero-part-requires c κs = omega arith
 
-zero-part-requires-2 : tie.Need-zero-part-requires-2
+zero-region-requires : tie.Need-zero-region-requires
 unfolding slotSize
-zero-part-requires-2 c κs = omega arith
+zero-region-requires c κs = omega arith
 
-zero-part-requires-3 : tie.Need-zero-part-requires-3
+zero-region-requires-2 : tie.Need-zero-region-requires-2
 unfolding slotSize
-zero-part-requires-3 c κs = omega arith
+zero-region-requires-2 c κs = omega arith
 
 returns : tie.Need-returns
 unfolding unusedSlot nameSize slotSize
-returns c = λ b. rw (c .before .before .zero-part .ensures, c .before .zero-part2 .ensures, c .zero-part3 .ensures)
+returns c = λ b. rw (c .before .before .zero-part .ensures, c .before .zero-region .ensures, c .zero-region2 .ensures)
 
 pub unused-slot-spec : {M : Type 1} → statement M
 unused-slot-spec =
@@ -35,6 +35,6 @@ unused-slot-spec =
     mul-at
     mul-zero-part
     zero-part-requires
-    zero-part-requires-2
-    zero-part-requires-3
+    zero-region-requires
+    zero-region-requires-2
     returns)
