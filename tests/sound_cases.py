@@ -3,8 +3,7 @@
 
 sound_cases.py --write   writes crates/sound_cases/stdin and crates/sound_cases/stdout
 sound_cases.py --check   fails unless both are what this script makes"""
-import pathlib
-import sys
+import written
 
 CONTROL, TABLE, NAMES, COMMITTED, STAGED, TEST = range(6)
 IDLE, UPLOADING, VERIFIED = range(3)
@@ -151,12 +150,7 @@ def main():
         for what, place, _ in changes:
             given += record(what, place, 0)
         said += "sound\n" if sound else "not sound\n"
-    folder = pathlib.Path(__file__).resolve().parent.parent / "crates" / "sound_cases"
-    for name, data in {"stdin": bytes(given), "stdout": said.encode()}.items():
-        if sys.argv[1:] == ["--write"]:
-            (folder / name).write_bytes(data)
-        elif (folder / name).read_bytes() != data:
-            sys.exit(f"crates/sound_cases/{name} is not what tests/sound_cases.py makes")
+    written.write_or_check("sound_cases", {"stdin": bytes(given), "stdout": said.encode()})
     print(f"{len(CASES)} states")
 
 

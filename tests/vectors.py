@@ -6,10 +6,10 @@ vectors.py --check   fails unless both are what this script makes
 
 The CRC is Python's own (binascii.crc_hqx), so that table and rule are compared with another implementation."""
 import binascii
-import pathlib
 import random
 import string
-import sys
+
+import written
 
 OEM = bytes([0xCF, 0xC2, 0x00])
 COUNT, ENUMERATE, OPEN, READ, WRITE, COMMIT, CLOSE, DELETE, STAT, SESSION_STAT, WRITE_META = range(11)
@@ -142,17 +142,12 @@ def responses():
 
 
 def main():
-    folder = pathlib.Path(__file__).resolve().parent.parent / "crates" / "vectors"
     all_messages = list(messages())
     made = {"stdin": b"".join(bytes([len(m)]) + m for m in all_messages),
             "stdout": ("".join(responses()) + "".join(line(decode(m)) for m in all_messages)).encode()}
     assert crc(b"123456789") == 0x29B1 and crc(b"") == 0xFFFF
     assert len(made["stdin"]) <= 65536, "the program reads its input into one buffer"
-    for name, data in made.items():
-        if sys.argv[1:] == ["--write"]:
-            (folder / name).write_bytes(data)
-        elif (folder / name).read_bytes() != data:
-            sys.exit(f"crates/vectors/{name} is not what tests/vectors.py makes")
+    written.write_or_check("vectors", made)
     print(f"{len(all_messages)} messages, {len(made['stdin'])} bytes")
 
 

@@ -20,7 +20,6 @@ import shlex
 import sys
 
 OEM = b"\xcf\xc2\x00"
-NAMES = "count enumerate open read write commit close delete stat sessionstat writemeta".split()
 CODES = {0x00: "accepted", 0xFF: "refused: state not sound", 0xC7: "refused: wrong length", 0xCC: "refused: OEM number, CRC, name form, flags or commit length",
          0xC1: "refused: no such subcommand", 0xCB: "refused: no such blob or session", 0xC9: "refused: index or offset out of range", 0xC8: "refused: too long",
          0xC4: "refused: no free row or slot", 0xC0: "refused: busy", 0xD5: "refused: not supported"}
@@ -30,13 +29,63 @@ def little(value, width):
     return value.to_bytes(width, "little")
 
 
-def message(name, fields=b""):
-    crc = little(binascii.crc_hqx(fields, 0xFFFF), 2) if fields else b""
-    return OEM + bytes([NAMES.index(name)]) + crc + fields
+def number(data):
+    return int.from_bytes(data, "little")
+
+
+def text_of(data):
+    return data.rstrip(b"\0").decode("latin-1")
 
 
 def payload(word):
     return word[1:].encode() if word.startswith("=") else bytes.fromhex(word)
+
+
+def name_field(words):
+    return words[0].encode("latin-1") + b"\0"
+
+
+def session_field(words):
+    return little(int(words[0]), 2)
+
+
+def session_and_offset(words):
+    return session_field(words) + little(int(words[1]), 4)
+
+
+def shown_session(fields):
+    return [number(fields[:2])]
+
+
+NAMED = name_field, lambda f: [text_of(f)]
+OF_SESSION = session_field, shown_session
+# Each request, in the order of the subcommands: its fields from the words of a line, and the words that show its fields.
+REQUESTS = {
+    "count": (lambda w: b"", lambda f: []),
+    "enumerate": (lambda w: little(int(w[0]), 4), lambda f: [number(f)]),
+    "open": (lambda w: little(int(w[1], 16), 2) + name_field(w), lambda f: [text_of(f[2:]), f"{number(f[:2]):04x}"]),
+    "read": (lambda w: session_and_offset(w) + little(int(w[2]), 4), lambda f: [number(f[:2]), number(f[2:6]), number(f[6:10])]),
+    "write": (lambda w: session_and_offset(w) + b"".join(map(payload, w[2:])), lambda f: [number(f[:2]), number(f[2:6]), f[6:].hex()]),
+    "commit": (lambda w: session_field(w) + b"\0", shown_session),
+    "close": OF_SESSION,
+    "delete": NAMED,
+    "stat": NAMED,
+    "sessionstat": OF_SESSION,
+    "writemeta": (lambda w: session_field(w) + little(0, 4), shown_session),
+}
+NAMES = list(REQUESTS)
+# The words that show a response's fields; the others are state and size.
+RESPONSES = {
+    "count": number,
+    "enumerate": text_of,
+    "open": lambda f: f"session {number(f)}",
+    "read": lambda f: f"{len(f)} bytes {f.hex()}",
+}
+
+
+def message(name, fields=b""):
+    crc = little(binascii.crc_hqx(fields, 0xFFFF), 2) if fields else b""
+    return OEM + bytes([NAMES.index(name)]) + crc + fields
 
 
 def request(words):
@@ -44,24 +93,8 @@ def request(words):
     name, rest = words[0], words[1:]
     if name == "raw":
         return bytes.fromhex("".join(rest))
-    if name == "count":
-        return message(name)
-    if name == "enumerate":
-        return message(name, little(int(rest[0]), 4))
-    if name == "open":
-        return message(name, little(int(rest[1], 16), 2) + rest[0].encode("latin-1") + b"\0")
-    if name in ("delete", "stat"):
-        return message(name, rest[0].encode("latin-1") + b"\0")
-    session = little(int(rest[0]), 2)
-    if name == "read":
-        return message(name, session + little(int(rest[1]), 4) + little(int(rest[2]), 4))
-    if name == "write":
-        return message(name, session + little(int(rest[1]), 4) + b"".join(payload(w) for w in rest[2:]))
-    if name == "commit":
-        return message(name, session + b"\0")
-    if name == "writemeta":
-        return message(name, session + little(0, 4))
-    return message(name, session)
+    fields, _ = REQUESTS.get(name, OF_SESSION)  # `message` refuses a name that is not listed
+    return message(name, fields(rest))
 
 
 def make(text):
@@ -88,33 +121,20 @@ def records(data):
         if len(head) < 5 or len(body) < head[4]:
             yield None, data[at:]
             return
-        yield int.from_bytes(head[:4], "little"), body
+        yield number(head[:4]), body
         at += 5 + len(body)
 
 
-def number(data):
-    return int.from_bytes(data, "little")
-
-
 def asked(m):
-    if len(m) < 4 or m[:3] != OEM or m[3] > 10:
+    if len(m) < 4 or m[:3] != OEM or m[3] >= len(NAMES):
         return "raw " + m.hex().upper()
-    name, f = NAMES[m[3]], m[6:]
-    if name == "open":
-        return f"open {text_of(f[2:])} {number(f[:2]):04x}"
-    if name in ("delete", "stat"):
-        return f"{name} {text_of(f)}"
-    if name == "enumerate":
-        return f"enumerate {number(f)}"
-    if name == "read":
-        return f"read {number(f[:2])} {number(f[2:6])} {number(f[6:10])}"
-    if name == "write":
-        return f"write {number(f[:2])} {number(f[2:6])} {f[6:].hex()}"
-    return name if name == "count" else f"{name} {number(f[:2])}"
+    name = NAMES[m[3]]
+    _, shown = REQUESTS[name]
+    return " ".join([name, *map(str, shown(m[6:]))])
 
 
-def text_of(data):
-    return data.rstrip(b"\0").decode("latin-1")
+def state_and_size(fields):
+    return f"state {number(fields[:2]):04x}, size {number(fields[2:6])}"
 
 
 def answered(m, line):
@@ -124,16 +144,8 @@ def answered(m, line):
     f = r[6:]
     if not f or len(m) < 4:
         return words
-    name = NAMES[r[3]]
-    if name == "open":
-        return f"{words}: session {number(f)}"
-    if name == "count":
-        return f"{words}: {number(f)}"
-    if name == "enumerate":
-        return f"{words}: {text_of(f)}"
-    if name == "read":
-        return f"{words}: {len(f)} bytes {f.hex()}"
-    return f"{words}: state {number(f[:2]):04x}, size {number(f[2:6])}"
+    shown = RESPONSES.get(NAMES[r[3]], state_and_size)
+    return f"{words}: {shown(f)}"
 
 
 def show(data, lines):

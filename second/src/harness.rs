@@ -79,15 +79,24 @@ impl OwnedMemory {
 
     /// The places of the used rows.
     pub fn used_rows(&self) -> Vec<usize> {
-        (0..ROWS)
-            .filter(|row| self.control[ROWS_USED] >> row & 1 == 1)
-            .collect()
+        (0..ROWS).filter(|row| self.row_used(*row)).collect()
     }
 
     pub fn free_rows(&self) -> Vec<usize> {
-        (0..ROWS)
-            .filter(|row| self.control[ROWS_USED] >> row & 1 == 0)
-            .collect()
+        (0..ROWS).filter(|row| !self.row_used(*row)).collect()
+    }
+
+    pub fn row_used(&self, row: usize) -> bool {
+        self.control[ROWS_USED] >> row & 1 == 1
+    }
+
+    /// What the used rows hold.
+    pub fn sessions(&self) -> impl Iterator<Item = Row> + '_ {
+        self.used_rows().into_iter().map(|row| self.row(row))
+    }
+
+    pub fn session(&self, identifier: u32) -> Option<Row> {
+        self.sessions().find(|row| row.identifier == identifier)
     }
 
     pub fn used_slots(&self) -> Vec<usize> {
@@ -237,12 +246,12 @@ impl Random {
         list[self.below(list.len() as u64) as usize].clone()
     }
 
+    pub fn pick_if_any<T: Clone>(&mut self, list: &[T]) -> Option<T> {
+        (!list.is_empty()).then(|| self.pick(list))
+    }
+
     pub fn pick_or<T: Clone>(&mut self, list: &[T], otherwise: T) -> T {
-        if list.is_empty() {
-            otherwise
-        } else {
-            self.pick(list)
-        }
+        self.pick_if_any(list).unwrap_or(otherwise)
     }
 
     pub fn shuffle<T>(&mut self, list: &mut [T]) {
@@ -306,10 +315,7 @@ pub fn read(session: u16, offset: u32, requested: u32) -> Vec<u8> {
 }
 
 pub fn write(session: u16, offset: u32, data: &[u8]) -> Vec<u8> {
-    message(
-        message::WRITE,
-        &[&session.to_le_bytes()[..], &offset.to_le_bytes(), data].concat(),
-    )
+    with_data(message::WRITE, session, offset, data)
 }
 
 pub fn commit(session: u16) -> Vec<u8> {
@@ -337,8 +343,12 @@ pub fn session_stat(session: u16) -> Vec<u8> {
 }
 
 pub fn write_meta(session: u16, offset: u32, data: &[u8]) -> Vec<u8> {
+    with_data(message::WRITE_META, session, offset, data)
+}
+
+fn with_data(subcommand: u8, session: u16, offset: u32, data: &[u8]) -> Vec<u8> {
     message(
-        message::WRITE_META,
+        subcommand,
         &[&session.to_le_bytes()[..], &offset.to_le_bytes(), data].concat(),
     )
 }
@@ -431,9 +441,8 @@ fn fill_slot(random: &mut Random, memory: &mut OwnedMemory, slot: usize, session
     let committed = !writing || random.chance(60);
     memory.name_mut(slot).copy_from_slice(&pad(&name));
     memory.control[SLOTS_USED] |= 1 << slot;
-    let region = slot * SLOT_CAPACITY..(slot + 1) * SLOT_CAPACITY;
-    random.fill(&mut memory.committed[region.clone()]);
-    random.fill(&mut memory.staged[region]);
+    random.fill(&mut memory.committed[region(slot)]);
+    random.fill(&mut memory.staged[region(slot)]);
     if committed {
         memory.control[SLOTS_COMMITTED] |= 1 << slot;
         memory.control[COMMITTED_LENGTHS + slot] = random_length(random, SLOT_CAPACITY as u32);
@@ -444,11 +453,17 @@ fn fill_slot(random: &mut Random, memory: &mut OwnedMemory, slot: usize, session
     if session {
         let flags = if writing { FLAGS_READ_WRITE } else { FLAGS_READ };
         let clean = !writing || (committed && random.chance(50));
-        rows.push(row(slot as u32, flags, 0, clean));
+        rows.push(new_row(slot as u32, flags, 0, clean));
     }
 }
 
-fn row(blob: u32, flags: u32, status: u32, clean: bool) -> Row {
+/// The places of a slot's bytes, committed or staged.
+pub fn region(slot: usize) -> std::ops::Range<usize> {
+    slot * SLOT_CAPACITY..(slot + 1) * SLOT_CAPACITY
+}
+
+/// A row whose identifier and stamp are still to be set.
+pub fn new_row(blob: u32, flags: u32, status: u32, clean: bool) -> Row {
     Row {
         identifier: 0,
         blob,
@@ -493,7 +508,7 @@ fn fill_flash(random: &mut Random, memory: &mut OwnedMemory, rows: &mut Vec<Row>
         random.fill(&mut memory.hash);
     }
     if let Some((flash, status)) = session {
-        rows.push(row(flash.blob(), FLAGS_FLASH, status, false));
+        rows.push(new_row(flash.blob(), FLAGS_FLASH, status, false));
     }
 }
 

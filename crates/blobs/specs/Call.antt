@@ -2,7 +2,7 @@
 use mathlib.Core.List.{List, []}
 use Prim.Native.Nat.{ℕ}
 use Rattle.protocol.specs.declared.Code.{Code}
-use Rattle.state.specs.State.{State, stateOf}
+use Rattle.state.specs.State.{stateOf}
 use Rattle.state.specs.declared.Control.{Control}
 use Rattle.rules.specs.Respond.{Outcome, Served}
 use Rattle.blobs.specs.declared.Reply.{Reply}

@@ -8,6 +8,7 @@ ghost use Rattle.commands.specs.Left.{replyOf};
 ghost use Rattle.blobs.specs.Call.{servedOf, outcomeOf};
 use commands::Said;
 use decoding::decode;
+use protocol::ANSWER_SIZE;
 use protocol::Code;
 use sending::finish;
 use serving::serve;
@@ -20,9 +21,6 @@ pub struct Reply {
     pub len: usize,
     pub control: Control,
 }
-
-// The length of the answer buffer.
-pub const ANSWER_SIZE: usize = 64;
 
 // Answers one request. The caller lends the session table (64 words), the names (512 bytes), the committed and staged regions (65,536 bytes
 // each), the image (16,384 bytes), the hash (64 bytes) and the answer buffer (64 bytes); anything else, and any state that is not sound, is

@@ -1,34 +1,16 @@
--- Bytes stored one after the other, whole blocks, and a search that goes on. Assumes nothing.
+-- Whole blocks, and a search that goes on. Assumes nothing.
 use mathlib.Core.Path.{_≡_, refl, sym, _∙_, ap}
-use mathlib.Core.Bool.{Bool, true, false}
-use mathlib.Core.List.{List, [], _∷_, _++_}
+use mathlib.Core.Bool.{Bool, false}
+use mathlib.Core.List.{List, _++_}
 use mathlib.Core.Option.{none}
-use Prim.Native.Nat.{ℕ, suc, _+_, _*_, _-_, _≤_, _<_}
-use native.Mathlib.Nat.{add-zero}
+use Prim.Native.Nat.{ℕ, _+_, _*_, _-_, _≤_}
 use native.Mathlib.Numerals.{add-one}
 use native.Mathlib.Omega.{arith}
-use lib.ListN.{length, getD, set, take, drop, replicate, length-replicate}
-use lib.Seq.{sets, paste, paste-suc, take-all, take-take}
-use Rattle.laws.specs.Ranges.{part, block, length-part, paste-sets}
+use lib.ListN.{length, take, drop, replicate, length-replicate}
+use lib.Seq.{sets, take-all, take-take}
+use Rattle.laws.specs.Ranges.{part, block, length-part, sets-append}
 use Rattle.laws.specs.Bytes.{padded, padded-is, padded-length}
 use Rattle.laws.specs.Find.{first}
-
--- ---- a loop that stores the bytes s from `at` on: one turn, and its end
-pub stored-more : (d : List ℕ) (at : ℕ) (s : List ℕ) (i v : ℕ) (x : List ℕ) → at + length s ≤ length d → i < length s → getD s i 0 ≡ v → x ≡ paste d at s i
-    → set x (at + i) v ≡ paste d at s (i + 1)
-stored-more d at s i v x h l g e =
-    ap (λ (y : List ℕ). set y (at + i) v) e
-    ∙ ap (λ (y : ℕ). set (paste d at s i) (at + i) y) (sym g)
-    ∙ rw add-one (paste-suc d at s i 0 (omega arith) l)
-
-pub stored-all : (d : List ℕ) (at : ℕ) (s : List ℕ) (i : ℕ) (x : List ℕ) → at + length s ≤ length d → i ≡ length s → x ≡ paste d at s i → x ≡ sets d at s
-stored-all d at s i x h q e =
-    e ∙ ap (paste d at s) q ∙ paste-sets d at s (length s) h (omega arith) ∙ ap (sets d at) (take-all (length s) s (omega arith))
-
--- two runs of bytes, one behind the other
-pub sets-append : (a b l : List ℕ) (i : ℕ) → sets l i (a ++ b) ≡ sets (sets l i a) (i + length a) b
-sets-append [] b l i = rw add-zero
-sets-append (x ∷ a) b l i = sets-append a b (set l i x) (suc i) ∙ ap (λ (j : ℕ). sets (sets (set l i x) (suc i) a) j b) (omega arith)
 
 -- ---- blocks: the code knows the size n of a block as the number m
 module _ (n m : ℕ) (size : n ≡ m) (k : ℕ) (l : List ℕ) where

@@ -1,3 +1,3 @@
 pub mod Lookup
 pub mod Laws
-pub mod Sizes
+pub mod Slots

@@ -1,5 +1,5 @@
 -- Looking a session's row up: by identifier, by blob, or the flash session's; and that these are the lookups of the rules.
-use mathlib.Core.Path.{_≡_, refl, sym}
+use mathlib.Core.Path.{_≡_, refl}
 use mathlib.Core.Bool.{Bool, _&&_}
 use mathlib.Core.List.{List}
 use mathlib.Core.Option.{Option}

@@ -1,47 +1,29 @@
-// Work on lent memory: bytes stored or cleared, a slot's regions and name, the row of a session looked up.
+// Work on lent memory: a slot's regions and name, a slot freed, the row of a session looked up.
 ghost use mathlib.Core.Path.{_≡_};
-ghost use Prim.Native.Nat.{_+_, _*_, _≤_, _<_};
+ghost use mathlib.Core.List.{List};
+ghost use Prim.Native.Nat.{ℕ, _+_, _*_, _≤_, _<_};
 ghost use lib.ListN.{length, replicate};
-ghost use lib.Seq.{sets};
 ghost use Rattle.laws.specs.Ranges.{part, block};
 ghost use Rattle.laws.specs.Bytes.{padded};
 ghost use Rattle.laws.specs.Find.{first};
 ghost use Rattle.protocol.specs.Numbers.{rowCount, rowWords, slotCount, nameSize, slotSize};
 ghost use Rattle.state.specs.Answers.{optionOf};
 ghost use Rattle.state.specs.Entry.{wordsOf};
+ghost use Rattle.state.specs.State.{stateOf, inBody, slot};
+ghost use Rattle.state.specs.Words.{freeSlot};
 ghost use Rattle.buffers.specs.Lookup.{fits, sought};
+use copying::clear_at;
+use copying::copy_at;
+use state::Control;
 use state::NAME_SIZE;
 use state::ROWS;
 use state::SLOT_SIZE;
 use state::SLOTS;
 use state::mask::Found;
+use state::mask::clear_bit;
 use state::mask::has;
 use state::row::Entry;
 use state::row::read_row;
-
-// The bytes src are stored into dst from `at` on.
-pub fn copy_at(dst: &mut [u8], at: usize, src: &[u8])
-    requires { ⌜ at + length (now src) ≤ length (now dst) ⌝ }
-    ensures { λ _. ⌜ now (dst .exit) ≡ sets (now (dst .entry)) at (now (src .entry)) ⌝ }
-{
-    let mut i: usize = 0;
-    while i < src.len() {
-        dst[at + i] = src[i];
-        i += 1;
-    }
-}
-
-// n zeros are stored into dst from `at` on.
-pub fn clear_at(dst: &mut [u8], at: usize, n: usize)
-    requires { ⌜ at + n ≤ length (now dst) ⌝ }
-    ensures { λ _. ⌜ now (dst .exit) ≡ sets (now (dst .entry)) at (replicate n 0) ⌝ }
-{
-    let mut i: usize = 0;
-    while i < n {
-        dst[at + i] = 0;
-        i += 1;
-    }
-}
 
 // Slot k's region of dst becomes its region of src.
 pub fn copy_region(dst: &mut [u8], src: &[u8], k: usize)
@@ -78,6 +60,28 @@ pub fn put_name(names: &mut [u8], k: usize, message: &[u8], start: usize, len: u
     let end = start + len;
     copy_at(names, at, &message[start..end]);
     clear_at(names, at + len, NAME_SIZE - len)
+}
+
+// Slot k becomes free: its name, its marks, its lengths and both regions are zeroed.
+pub fn free_slot(
+    k: usize,
+    control: Control,
+    names: &mut [u8],
+    committed: &mut [u8],
+    staged: &mut [u8],
+) -> Control
+    requires { ⌜ (k < slotCount) × ((length (now names) ≡ slotCount * nameSize) × ((length (now committed) ≡ slotCount * slotSize) × (length (now staged) ≡ slotCount * slotSize))) ⌝ }
+    ensures { λ v. ⌜ ((table image hash : List ℕ) → stateOf v table (now (names .exit)) (now (committed .exit)) (now (staged .exit)) image hash ≡ inBody (slot k) .put freeSlot (stateOf control table (now (names .entry)) (now (committed .entry)) (now (staged .entry)) image hash)) ⌝ }
+{
+    clear_name(names, k);
+    clear_region(committed, k);
+    clear_region(staged, k);
+    let mut next = control;
+    next.slots = clear_bit(control.slots, k);
+    next.committed = clear_bit(control.committed, k);
+    next.committed_len[k] = 0;
+    next.staged_len[k] = 0;
+    next
 }
 
 // The row that is looked for: the session of an identifier, the session on a blob, or the flash session.

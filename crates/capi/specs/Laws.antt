@@ -14,7 +14,7 @@ use Rattle.rules.specs.Respond.{Outcome, unsound, respond, jobOutcome, Served, 
 use Rattle.guarantees.specs.Fits.{response-fits}
 use Rattle.control_words.specs.Words.{controlFits, controlOf, wordsOf}
 use Rattle.control_words.specs.Laws.{words-control}
-use Rattle.capi.specs.Call.{Memory, stateIn, memoryOf, Responded, respondedWith, responded, codeUnit, resultOf, Reported, reportedWith, reported}
+use Rattle.capi.specs.Call.{Memory, stateIn, memoryOf, Responded, respondedWith, responded, codeUnit, resultOf, reportedWith, reported}
 
 -- the memory l with other control words
 abbrev withControl : Memory → List ℕ → Memory

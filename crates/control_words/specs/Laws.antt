@@ -8,9 +8,8 @@ use lib.Dec.{eqb, leb}
 use lib.ListN.{length, getD, take, drop, length-append, drop-of-length-le, take-append-drop}
 use lib.Seq.{sets, sets-eq, drop-cons, drop-drop, take-at, drop-at, getD-append-add}
 use borrow.Author.Tests.{eqb-true, leb-true}
-use Rattle.laws.specs.Ranges.{part}
+use Rattle.laws.specs.Ranges.{part, sets-append}
 use Rattle.laws.specs.All.{and-true}
-use Rattle.buffers.specs.Laws.{sets-append}
 use Rattle.protocol.specs.Numbers.{slotCount}
 use Rattle.state.specs.declared.Phase.{Phase}
 use Rattle.state.specs.declared.Phase.the-variants.{Idle, Uploading, Verified}

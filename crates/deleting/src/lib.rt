@@ -1,19 +1,17 @@
 // Delete.
 ghost use mathlib.Core.Path.{_≡_};
 ghost use mathlib.Core.List.{List};
-ghost use Prim.Native.Nat.{ℕ, _+_, _*_, _<_, _≤_};
+ghost use Prim.Native.Nat.{ℕ, _+_, _*_, _≤_};
 ghost use lib.ListN.{length};
 ghost use Rattle.protocol.specs.Numbers.{rowCount, rowWords, slotCount, nameSize, slotSize};
+ghost use Rattle.protocol.specs.Inside.{BlobInside};
 ghost use Rattle.protocol.specs.declared.Blob.the-variants.{Store};
-ghost use Rattle.state.specs.State.{stateOf, inBody, slot};
-ghost use Rattle.state.specs.Words.{freeSlot};
+ghost use Rattle.state.specs.State.{stateOf};
 ghost use Rattle.rules.specs.Open.{deleteBlob};
 ghost use Rattle.commands.specs.Left.{left};
-ghost use Rattle.places.specs.Named.{InMessage};
 use buffers::Wanted;
-use buffers::clear_name;
-use buffers::clear_region;
 use buffers::find_row;
+use buffers::free_slot;
 use commands::Act;
 use commands::Said;
 use places::find_name;
@@ -21,29 +19,6 @@ use protocol::Blob;
 use protocol::Code;
 use state::Control;
 use state::mask::Found;
-use state::mask::clear_bit;
-
-// Slot k becomes free: its name, its marks, its lengths and both regions are zeroed.
-fn free_slot(
-    k: usize,
-    control: Control,
-    names: &mut [u8],
-    committed: &mut [u8],
-    staged: &mut [u8],
-) -> Control
-    requires { ⌜ (k < slotCount) × ((length (now names) ≡ slotCount * nameSize) × ((length (now committed) ≡ slotCount * slotSize) × (length (now staged) ≡ slotCount * slotSize))) ⌝ }
-    ensures { λ v. ⌜ ((table image hash : List ℕ) → stateOf v table (now (names .exit)) (now (committed .exit)) (now (staged .exit)) image hash ≡ inBody (slot k) .put freeSlot (stateOf control table (now (names .entry)) (now (committed .entry)) (now (staged .entry)) image hash)) ⌝ }
-{
-    clear_name(names, k);
-    clear_region(committed, k);
-    clear_region(staged, k);
-    let mut next = control;
-    next.slots = clear_bit(control.slots, k);
-    next.committed = clear_bit(control.committed, k);
-    next.committed_len[k] = 0;
-    next.staged_len[k] = 0;
-    next
-}
 
 // Delete of a store name, which stands in the message.
 fn delete_store(
@@ -88,7 +63,7 @@ pub fn delete(
     committed: &mut [u8],
     staged: &mut [u8],
 ) -> Act
-    requires { ⌜ InMessage blob (length (now message)) × ((length (now table) ≡ rowCount * rowWords) × ((length (now names) ≡ slotCount * nameSize) × ((length (now committed) ≡ slotCount * slotSize) × (length (now staged) ≡ slotCount * slotSize)))) ⌝ }
+    requires { ⌜ BlobInside (now message) blob × ((length (now table) ≡ rowCount * rowWords) × ((length (now names) ≡ slotCount * nameSize) × ((length (now committed) ≡ slotCount * slotSize) × (length (now staged) ≡ slotCount * slotSize)))) ⌝ }
     ensures { λ o. ⌜ ((image hash answer : List ℕ) → left o (now (table .entry)) (now (names .exit)) (now (committed .exit)) (now (staged .exit)) image hash answer ≡ deleteBlob blob (now (message .entry)) (stateOf control (now (table .entry)) (now (names .entry)) (now (committed .entry)) (now (staged .entry)) image hash)) ⌝ }
 {
     match blob {

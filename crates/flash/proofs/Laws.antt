@@ -2,7 +2,7 @@
 use mathlib.Core.Path.{_≡_, refl, sym, _∙_, ap}
 use mathlib.Core.Bool.{Bool, true, false, cond, true≢false}
 use mathlib.Core.List.{List, _++_, append-nil}
-use Prim.Native.Nat.{ℕ, _+_, _≤_, _<_, max}
+use Prim.Native.Nat.{ℕ, _+_, _≤_, max}
 use native.Mathlib.Nat.{zero-add}
 use native.Mathlib.Omega.{arith}
 use lib.Dec.{eqb}
@@ -16,20 +16,18 @@ use Rattle.protocol.specs.Names.{kindOf}
 use Rattle.protocol.specs.Frame.{Reply, refused, done, reply, statFields}
 use Rattle.protocol.specs.declared.FlashKind.{FlashKind}
 use Rattle.protocol.specs.declared.FlashKind.the-variants.{Image, Hash, Verify, Update, Cleanup}
-use Rattle.state.specs.declared.Phase.{Phase}
-use Rattle.state.specs.declared.Phase.the-variants.{Idle, Uploading, Verified}
+use Rattle.state.specs.declared.Phase.the-variants.{Uploading, Verified}
 use Rattle.state.specs.declared.row.Entry.{Entry}
 use Rattle.state.specs.Entry.{wordsOf, lifted, statusSet}
-use Rattle.state.specs.State.{State, Rows, Row, Flash, flash}
-use Rattle.state.specs.Words.{wordOf, statusIn, statusOf, stamped, withStatus, freeRow, emptyFlash}
+use Rattle.state.specs.State.{State, Row, Flash, flash}
+use Rattle.state.specs.Words.{statusIn, statusOf, stamped, withStatus, freeRow, emptyFlash}
 use Rattle.state.specs.Agree.{place-flash}
 use Rattle.rules.specs.Store.{Command, write, commit, stat, close, outcome, Out, refuse, placed, commitFits, stateBits}
-use Rattle.rules.specs.Flash.{onFlash, writeFlash, withImage, withHash, withPhase, startable, verifyJob, updateJob, commitKind, commitFlash, closedFlash, closeFlash, flashLength, statFlash, verdict, jobEnds}
+use Rattle.rules.specs.Flash.{onFlash, writeFlash, withImage, withHash, withPhase, verifyJob, updateJob, commitKind, commitFlash, closedFlash, closeFlash, flashLength, statFlash, verdict, jobEnds}
 use Rattle.rules.specs.Session.{onRow}
 use Rattle.commands.specs.declared.Said.{Said}
 use Rattle.commands.specs.Left.{replyOf}
 use Rattle.rowcommands.specs.declared.Written.{Written}
-use Rattle.rowcommands.specs.declared.Written.the-variants.{Refused, Length}
 use Rattle.rowcommands.specs.Write.{written, written-has, saidBy, lengthBy, regionBy, tableBy}
 use Rattle.rowcommands.specs.OnRow.{rowRead, does, refuses, with, put-flash, row-kept, row-freed}
 use Rattle.flash.specs.Jobs.{startableIn, started, updatedBy, closedPhase}

@@ -1,19 +1,13 @@
 -- A response is laid down part by part, each behind the one before. Assumes nothing.
 use mathlib.Core.Path.{_≡_, refl, sym, ap, _∙_}
 use mathlib.Core.List.{List, [], _∷_, _++_, append-assoc}
-use Prim.Native.Nat.{ℕ, zero, suc, _+_, _-_, _≤_, _<_}
+use Prim.Native.Nat.{ℕ, _+_, _-_}
 use native.Mathlib.Omega.{arith}
-use native.Mathlib.Numerals.{add-one}
-use lib.ListN.{length, getD, set, take, drop, length-append, length-set}
-use lib.Seq.{paste, paste-suc, take-all, take-append-seam, drop-append-add, drop-drop}
+use lib.ListN.{length, getD, take, drop, length-append}
+use lib.Seq.{paste, take-all, take-append-seam, drop-append-add, drop-drop}
 use Rattle.laws.specs.Bytes.{bytesOf}
 use Rattle.crc.specs.Crc.{crc}
 use Rattle.protocol.specs.Frame.{header, done, reply, framed, laid, answerAfter, statFields}
-
--- a turn of the loop that stores
-pub paste-more : (d : List ℕ) (at : ℕ) (s : List ℕ) (i : ℕ) (x : List ℕ) → at + length s ≤ length d → i < length s → x ≡ paste d at s i
-    → set x (at + i) (getD s i 0) ≡ paste d at s (i + 1)
-paste-more d at s i x h l e = ap (λ (y : List ℕ). set y (at + i) (getD s i 0)) e ∙ rw add-one (paste-suc d at s i 0 (omega arith) l)
 
 -- what follows a part
 pub laid-more : (r v a x : List ℕ) (n : ℕ) → n ≡ length r → x ≡ laid r a → paste x n v (length v) ≡ laid (r ++ v) a

@@ -4,6 +4,8 @@ ghost use Prim.Native.Nat.{_+_, _≤_};
 ghost use lib.ListN.{length};
 ghost use lib.Seq.{paste};
 ghost use Rattle.laws.specs.Bytes.{bytesOf};
+ghost use Rattle.protocol.specs.Numbers.{headerSize};
+ghost use Rattle.protocol.specs.Decode.{fieldsAt};
 ghost use Rattle.protocol.specs.Frame.{done, reply, header, framed, answerAfter, statFields};
 
 // Bytes are stored from `at` on; the place behind them.
@@ -11,13 +13,8 @@ pub fn put_at(dst: &mut [u8], at: usize, src: &[u8]) -> usize
     requires { ⌜ at + length (now src) ≤ length (now dst) ⌝ }
     ensures { λ r. ⌜ (r ≡ at + length (now (src .entry))) × (now (dst .exit) ≡ paste (now (dst .entry)) at (now (src .entry)) (length (now (src .entry)))) ⌝ }
 {
-    let n = src.len();
-    let mut i: usize = 0;
-    while i < n {
-        dst[at + i] = src[i];
-        i += 1;
-    }
-    at + n
+    copying::copy_at(dst, at, src);
+    at + src.len()
 }
 
 // The bytes of a number of 16 bits, lowest first.
@@ -58,7 +55,7 @@ pub fn header_of(sub: u8) -> [u8; 4]
 
 // A success without fields is written; how long it is.
 pub fn respond_empty(sub: u8, answer: &mut [u8]) -> usize
-    requires { ⌜ 4 ≤ length (now answer) ⌝ }
+    requires { ⌜ headerSize ≤ length (now answer) ⌝ }
     ensures { λ r. ⌜ (r ≡ length (framed sub done .1)) × (now (answer .exit) ≡ answerAfter sub done (now (answer .entry))) ⌝ }
 {
     let head = header_of(sub);
@@ -67,7 +64,7 @@ pub fn respond_empty(sub: u8, answer: &mut [u8]) -> usize
 
 // A success with fields is written: header, CRC, fields; how long it is.
 pub fn respond_with(sub: u8, fields: &[u8], answer: &mut [u8]) -> usize
-    requires { ⌜ 6 + length (now fields) ≤ length (now answer) ⌝ }
+    requires { ⌜ fieldsAt + length (now fields) ≤ length (now answer) ⌝ }
     ensures { λ r. ⌜ (r ≡ length (framed sub (reply (now (fields .entry))) .1)) × (now (answer .exit) ≡ answerAfter sub (reply (now (fields .entry))) (now (answer .entry))) ⌝ }
 {
     let head = header_of(sub);

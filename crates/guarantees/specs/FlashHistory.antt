@@ -1,7 +1,7 @@
 -- The premise of the flash promise is met: a history from the fresh state, in messages, in which an update job starts. Assumes nothing.
-use mathlib.Core.Path.{_≡_, refl, sym, _∙_, ap, ap₂, subst}
-use mathlib.Core.Bool.{Bool, true, false, not, _&&_}
-use mathlib.Core.List.{List, [], _∷_, _++_}
+use mathlib.Core.Path.{_≡_, refl, sym, _∙_, ap}
+use mathlib.Core.Bool.{Bool, true, not, _&&_}
+use mathlib.Core.List.{List, [], _∷_}
 use Prim.Native.Nat.{ℕ, _*_}
 use native.Mathlib.Omega.{arith}
 use lib.Dec.{eqb}
@@ -19,7 +19,7 @@ use Rattle.protocol.specs.declared.Blob.the-variants.{Flash}
 use Rattle.protocol.specs.declared.Request.{Request}
 use Rattle.protocol.specs.declared.Request.the-variants.{Open, Commit, Close}
 use Rattle.state.specs.declared.Phase.{Phase}
-use Rattle.state.specs.declared.Phase.the-variants.{Idle, Uploading, Verified}
+use Rattle.state.specs.declared.Phase.the-variants.{Uploading, Verified}
 use Rattle.state.specs.State.{State}
 use Rattle.state.specs.Words.{wordWith, fresh}
 use Rattle.state.specs.Soundness.{isSound}

@@ -38,6 +38,7 @@ use Rattle.rules.specs.Respond.{Outcome, answered, respond, jobOutcome}
 use Rattle.rules.specs.Laws.{respond-is, job-is}
 use Rattle.rules.specs.Change.{change-sound, NewName, added-sound, values-sound}
 use Rattle.guarantees.specs.Merging.{on-row-sound}
+use Rattle.guarantees.specs.StorePart.{freed-fits}
 use Rattle.guarantees.specs.FlashPart.{uploading-not-idle}
 use Rattle.rules.specs.Identifiers.{after-small, fresh-small, fresh-unused}
 use Rattle.protocol.specs.Inside.{BlobInside, Inside, decoded-inside}
@@ -319,7 +320,7 @@ open-sound Unknown flags t m s nm g = g
 -- ---- Delete
 deleted-sound : (k : ℕ) (s : State) → Sound s → k < slotCount → rowOn k s ≡ none → Sound (inBody (slot k) .put freeSlot s)
 deleted-sound k s g low quiet = change-sound s s′ rowCount (slot k) g (record {
-  new-shape = body-shape (slot k) freeSlot s (low, fits) (g .shape);
+  new-shape = body-shape (slot k) freeSlot s (low, freed-fits) (g .shape);
   rows-kept = λ (r : ℕ) (n : r ≢ rowCount). row-body r (slot k) .seen freeSlot s;
   bodies-kept = λ (w : Place) (m : Separate (slot k) w). body-indep (slot k) w m .sees freeSlot s;
   others = λ (r : ℕ) (l : Live r s) (n : r ≢ rowCount). alone-slot k s low (no-row-on k s quiet) r l;
@@ -339,12 +340,8 @@ deleted-sound k s g low quiet = change-sound s s′ rowCount (slot k) g (record 
     past : rowCount < rowCount → ⊥
     past h = omega arith
 
-    fits : FitsSlot freeSlot
-    fits = record
-        { name-long = length-replicate nameSize 0; committed-long = length-replicate slotSize 0; staged-long = length-replicate slotSize 0; held-flag = omega arith; mark-flag = omega arith }
-
     emptied : slotAt k s′ ≡ freeSlot
-    emptied = body-get-put (slot k) freeSlot s (g .shape) (low, fits)
+    emptied = body-get-put (slot k) freeSlot s (g .shape) (low, freed-fits)
 
 delete-sound : (b : Blob) (m : List ℕ) (s : State) → Sound s → Sound (deleteBlob b m s .1)
 unfolding deleteBlob

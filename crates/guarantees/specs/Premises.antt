@@ -7,6 +7,7 @@ use mathlib.Core.List.{List, [], _∷_, _++_}
 use Prim.Native.Nat.{ℕ, _≤_}
 use native.Mathlib.Omega.{arith}
 use Rattle.laws.specs.Merge.{Same, Merge, All, tag, alone}
+use Rattle.protocol.specs.Sizes.{slot-size}
 use Rattle.protocol.specs.Numbers.{success, running, slotSize}
 use Rattle.protocol.specs.Decode.{decoded}
 use Rattle.protocol.specs.Frame.{Answer}
@@ -20,7 +21,7 @@ use Rattle.rules.specs.Store.{seenLength}
 use Rattle.rules.specs.Respond.{respond}
 use Rattle.rules.specs.Messages.{askRead, askWrite, askClose, askSessionStat, read-decoded, write-decoded, close-decoded, stat-decoded}
 use Rattle.rules.specs.Situations.{scanName, letterA, writingRow, writtenSlot, imageRow, twoWriters, two-good, two-first, two-second, two-slot, writerAndImage, image-good, image-first, image-second, image-slot}
-use Rattle.rules.specs.Examples.{Writes, slot-size}
+use Rattle.rules.specs.Examples.{Writes}
 use Rattle.guarantees.specs.Merging.{Event, message, step, deedIn, Names, Mine, merge-two}
 use Rattle.guarantees.specs.Sessions.{write-then-read, stat-then-close}
 

@@ -7,6 +7,7 @@ use Prim.Native.Nat.{ℕ, _+_, _≤_, _<_, max}
 use native.Mathlib.Omega.{arith}
 use borrow.Author.Tests.{ne-eqb}
 use lib.ListN.{length, getD}
+use Rattle.protocol.specs.Sizes.{slot-size}
 use Rattle.protocol.specs.Numbers.{success, writeCommand, readCommand, closeCommand, sessionStatCommand, slotCount, slotSize, sixteenBits, running}
 use Rattle.protocol.specs.Names.{kindOf}
 use Rattle.protocol.specs.Decode.{decoded, numberOf, fieldsAt}
@@ -26,7 +27,7 @@ use Rattle.rules.specs.Laws.{respond-is, placed-fits}
 use Rattle.rules.specs.Searches.{session-row}
 use Rattle.rules.specs.Change.{Proper, row-new}
 use Rattle.rules.specs.Messages.{sent, askRead, askWrite, askClose, askSessionStat, thirtyTwoBits, writeMost, read-decoded, write-decoded, close-decoded, stat-decoded}
-use Rattle.rules.specs.Examples.{Writes, slot-size}
+use Rattle.rules.specs.Examples.{Writes}
 use Rattle.rules.specs.Excluded.{read-after-write}
 use Rattle.guarantees.specs.Merging.{proper, proper-row, on-row-sound}
 use lib.Seq.{getD-set-other}

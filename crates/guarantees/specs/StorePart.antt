@@ -18,6 +18,11 @@ use Rattle.rules.specs.Store.{Command, read, write, commit, stat, close, writeM
 use Rattle.rules.specs.Laws.{placed-has}
 use Rattle.rules.specs.Change.{Proper}
 
+-- a freed slot has the lengths of a slot
+pub freed-fits : FitsSlot freeSlot
+freed-fits = record
+    { name-long = length-replicate nameSize 0; committed-long = length-replicate slotSize 0; staged-long = length-replicate slotSize 0; held-flag = omega arith; mark-flag = omega arith }
+
 module _ (k : ℕ) (low : k < slotCount) (r : Row) (b : Slot) (fr : FitsRow r) (fb : FitsSlot b) (on : r .used ≡ 1) (ses : StoreSession k r b) where
   abbrev Fine : Row × Slot → Type 0
   Fine c = Proper (slot k) r (c .0) b (c .1)
@@ -111,10 +116,6 @@ module _ (k : ℕ) (low : k < slotCount) (r : Row) (b : Slot) (fr : FitsRow r) (
     freed = λ (h : _≡_ {A = ℕ} 0 0). (refl, idle);
     named = λ (h : d .held ≡ 1). (ses .is-held, nm h);
   }
-
-  freed-fits : FitsSlot freeSlot
-  freed-fits = record
-      { name-long = length-replicate nameSize 0; committed-long = length-replicate slotSize 0; staged-long = length-replicate slotSize 0; held-flag = omega arith; mark-flag = omega arith }
 
   on-read : (y : Bool) (t i n : ℕ) → Fine (readStore y t i n r b .1)
   unfolding readStore

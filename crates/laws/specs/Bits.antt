@@ -1,16 +1,13 @@
 -- One bit of a mask: read, set and cleared, by recursion on its place, and as code does it by shifts and masks. Assumes nothing.
-use mathlib.Core.Path.{_≡_, refl, sym, _∙_, ap, ap₂, subst}
-use mathlib.Core.Logic.{_≢_, Ne·symm, _⊎_, inl, inr}
-use mathlib.Core.List.{List, [], _∷_, _++_, append-assoc}
-use Prim.Native.Nat.{ℕ, zero, suc, _+_, _*_, _-_, _/_, _%_, _^_, _≤_, _<_}
-use native.Mathlib.Nat.{suc-mul, zero-add, suc-add, mul-le-mul-right, add-zero, add-suc, min-le-left, mul-assoc, pow-suc, pow-succ', div-div-eq-div-mul, mod-eq-of-lt}
+use mathlib.Core.Path.{_≡_, refl, sym, _∙_, ap}
+use mathlib.Core.Logic.{_≢_, Ne·symm}
+use Prim.Native.Nat.{ℕ, zero, suc, _+_, _*_, _-_, _/_, _%_, _^_, _<_}
+use native.Mathlib.Nat.{pow-suc, pow-succ', div-div-eq-div-mul, mod-eq-of-lt}
 use native.Mathlib.Omega.{arith}
-use native.Mathlib.Decide.{decLt}
-use lib.ListN.{replicate, length-replicate, getD-replicate, length, getD, set, take, drop, length-take, length-drop, length-set, drop-of-length-le, take-append-drop}
-use lib.Seq.{ext-getD, sets, paste, sets-eq, length-sets, getD-set-other, getD-set-same, set-comm, set-getD, drop-set-lt, drop-set-add, take-set-le, drop-cons, take-at, drop-at, length-take-le, take-all, take-nil, drop-nil, getD-take, getD-drop, set-set, take-take, drop-drop}
+use lib.ListN.{set}
 use lib.Bits.{bitAnd, bitOr, and-step, or-step, or-zero-r, and-mask}
 use lib.Pow.{pow-pos, pow-lt}
-use Rattle.laws.specs.Lens.{Lens, Indep, Steady, Field, indep-sym, into, both, both-indep, into-indep, fields-indep, into-steady, both-steady}
+use Rattle.laws.specs.Lens.{Lens, Indep}
 
 abbrev pub bit : ℕ → ℕ → ℕ
 bit zero m = m % 2

@@ -1,16 +1,14 @@
 -- Parts of a flat list: a range, a block of equal blocks, an element. As lenses none of them asks anything of the list's length. Assumes nothing.
-use mathlib.Core.Path.{_≡_, refl, sym, _∙_, ap, ap₂, subst}
-use mathlib.Core.Logic.{_≢_, Ne·symm, _⊎_, inl, inr}
+use mathlib.Core.Path.{_≡_, refl, sym, _∙_, ap, ap₂}
+use mathlib.Core.Logic.{_≢_, Ne·symm}
 use mathlib.Core.List.{List, [], _∷_, _++_, append-assoc}
-use Prim.Native.Nat.{ℕ, zero, suc, _+_, _*_, _-_, _/_, _%_, _^_, _≤_, _<_}
-use native.Mathlib.Nat.{suc-mul, zero-add, suc-add, mul-le-mul-right, add-zero, add-suc, min-le-left, mul-assoc, pow-suc, pow-succ', div-div-eq-div-mul, mod-eq-of-lt}
+use Prim.Native.Nat.{ℕ, zero, suc, _+_, _*_, _-_, _≤_, _<_}
+use native.Mathlib.Nat.{suc-mul, zero-add, suc-add, mul-le-mul-right, add-zero, add-suc, min-le-left, add-sub-cancel-left}
 use native.Mathlib.Omega.{arith}
 use native.Mathlib.Decide.{decLt}
-use lib.ListN.{replicate, length-replicate, getD-replicate, length, getD, set, take, drop, length-take, length-drop, length-set, drop-of-length-le, take-append-drop}
-use lib.Seq.{ext-getD, sets, paste, sets-eq, length-sets, getD-set-other, getD-set-same, set-comm, set-getD, drop-set-lt, drop-set-add, take-set-le, drop-cons, take-at, drop-at, length-take-le, take-all, take-nil, drop-nil, getD-take, getD-drop, set-set, take-take, drop-drop}
-use lib.Bits.{bitAnd, bitOr, and-step, or-step, or-zero-r, and-mask}
-use lib.Pow.{pow-pos, pow-lt}
-use Rattle.laws.specs.Lens.{Lens, Indep, Steady, Field, indep-sym, into, both, both-indep, into-indep, fields-indep, into-steady, both-steady}
+use lib.ListN.{replicate, length-replicate, getD-replicate, length, getD, set, take, drop, length-take, length-drop, length-set, drop-of-length-le}
+use lib.Seq.{ext-getD, sets, paste, sets-eq, length-sets, getD-set-other, set-comm, set-getD, drop-set-lt, drop-set-add, take-set-le, drop-cons, take-at, drop-at, length-take-le, take-all, take-nil, drop-nil, getD-take, getD-drop, set-set, take-take, drop-drop}
+use Rattle.laws.specs.Lens.{Lens, Indep, Steady, indep-sym}
 
 pub block-fits : (n a b : ℕ) → a < b → a * n + n ≤ b * n
 block-fits n a b q = rw (← suc-mul) (mul-le-mul-right n q)
@@ -18,6 +16,10 @@ block-fits n a b q = rw (← suc-mul) (mul-le-mul-right n q)
 module _ {A : Type 0} where
   abbrev pub part : ℕ → ℕ → List A → List A
   part i n l = take n (drop i l)
+
+  -- `&l[i..i + n]`
+  pub lent-part : (i n : ℕ) (l : List A) → take (i + n - i) (drop i l) ≡ part i n l
+  lent-part i n l = rw add-sub-cancel-left
 
   part-set-below : (i n : ℕ) (l : List A) (k : ℕ) (a : A) → k < i → part i n (set l k a) ≡ part i n l
   part-set-below i n l k a h = rw (drop-set-lt i l k a h)
@@ -53,6 +55,11 @@ module _ {A : Type 0} where
   sets-comm (w ∷ ws) vs l i j h =
       ap (λ (r : List A). sets r (suc j) ws) (set-sets vs l i j w h)
       ∙ sets-comm ws vs (set l j w) i (suc j) (omega arith)
+
+  -- two runs, one behind the other
+  pub sets-append : (a b l : List A) (i : ℕ) → sets l i (a ++ b) ≡ sets (sets l i a) (i + length a) b
+  sets-append [] b l i = rw add-zero
+  sets-append (x ∷ a) b l i = sets-append a b (set l i x) (suc i) ∙ ap (λ (j : ℕ). sets (sets (set l i x) (suc i) a) j b) (omega arith)
 
   -- what is stored again as it was read changes nothing, also past the end
   pub sets-part : (d : A) (n : ℕ) (l : List A) (i : ℕ) → sets l i (part i n l) ≡ l
@@ -153,6 +160,9 @@ module _ {A : Type 0} where
   -- block k of a list of blocks of n
   abbrev pub block : ℕ → ℕ → Lens (List A) (List A)
   block n k = range (k * n) n
+
+  pub block-steady : (d : A) (n k : ℕ) → Steady (block n k)
+  block-steady d n k = range-steady d (k * n) n
 
   pub block-indep : (n i j : ℕ) → i ≢ j → Indep (block n i) (block n j)
   block-indep n i j h = go (decLt i j)

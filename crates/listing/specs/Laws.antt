@@ -8,16 +8,15 @@ use native.Mathlib.Omega.{arith}
 use native.Mathlib.Decide.{decLt}
 use lib.Count.{ones, onesIn}
 use lib.Dec.{eqb, ltb}
-use borrow.Author.Tests.{eq-eqb, ne-eqb, lt-ltb, le-ltb}
+use borrow.Author.Tests.{ne-eqb, lt-ltb, le-ltb}
 use lib.ListN.{length, getD, set, take, drop, length-take, length-append, List·getD-append}
 use lib.Seq.{sets, take-take, getD-append-add, getD-append-seam}
-use Rattle.laws.specs.Ranges.{part, block, part-sets}
+use Rattle.laws.specs.Ranges.{part, block, part-sets, sets-append}
 use Rattle.laws.specs.Bits.{bit, bit-lt}
 use Rattle.laws.specs.Bytes.{text, firstZero}
 use Rattle.laws.specs.Masks.{ones-more, ones-in}
-use Rattle.protocol.specs.Numbers.{slotCount, nameSize, sixteenBits, outOfRange}
-use Rattle.protocol.specs.Decode.{fieldsAt}
-use Rattle.protocol.specs.Names.{base, flashName, kindOf}
+use Rattle.protocol.specs.Numbers.{slotCount, sixteenBits, outOfRange}
+use Rattle.protocol.specs.Names.{base, kindOf}
 use Rattle.protocol.specs.Frame.{Reply, refused, reply}
 use Rattle.protocol.specs.declared.FlashKind.the-variants.{Cleanup}
 use Rattle.state.specs.declared.Phase.{Phase}
@@ -27,7 +26,6 @@ use Rattle.state.specs.Soundness.{slotAt}
 use Rattle.rules.specs.Open.{flashListed}
 use Rattle.rules.specs.Listing.{only, committedNames, flashNames, listed, enumerated}
 use Rattle.rules.specs.Counting.{flashCount, committed-count, flash-count}
-use Rattle.buffers.specs.Laws.{sets-append}
 use Rattle.listing.specs.declared.Listed.the-variants.{Base, Slot, Flash, Outside}
 use Rattle.listing.specs.Listed.{Nth, flashAt, InStore, listedReply}
 

@@ -1,5 +1,5 @@
 -- The ways through Open of a store name. Assumes nothing.
-use mathlib.Core.Path.{_≡_, refl, sym, _∙_, ap}
+use mathlib.Core.Path.{_≡_, sym, _∙_, ap}
 use mathlib.Core.Bool.{Bool, true, false, cond}
 use mathlib.Core.List.{List}
 use mathlib.Core.Option.{Option, none, some}
@@ -9,7 +9,7 @@ use borrow.Author.Tests.{eq-eqb, ne-eqb}
 use Rattle.laws.specs.Find.{first}
 use Rattle.laws.specs.Masks.{clear}
 use Rattle.protocol.specs.Numbers.{slotCount, readOnly, notFound, noRoom, busy, invalid}
-use Rattle.protocol.specs.Frame.{Reply, refused}
+use Rattle.protocol.specs.Frame.{refused}
 use Rattle.state.specs.State.{State, inBody, slot}
 use Rattle.state.specs.Soundness.{slotAt}
 use Rattle.rules.specs.Open.{rowOn, freeRowIn, freeSlotIn, openNew, openFree, openHeld, openNamed, openStore, slotNamed, storeFlags, newSlot, heldSlot}

@@ -1,6 +1,6 @@
 -- What a message asks, by document 01's order of the checks that need no state: message length (C7), OEM number (CC), subcommand (C1),
 -- body length (C7), CRC (CC); then, of a command that has a name, name form (CC).
-use mathlib.Core.Bool.{Bool, true, false, cond, _&&_, _||_}
+use mathlib.Core.Bool.{Bool, cond, _&&_, _||_}
 use mathlib.Core.List.{List, [], _∷_}
 use Prim.Native.Nat.{ℕ, _+_, _-_}
 use lib.Dec.{eqb, leb}

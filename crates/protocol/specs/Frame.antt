@@ -1,5 +1,4 @@
 -- A response: header, then, if there are fields, their CRC and the fields.
-use mathlib.Core.Bool.{Bool, true, false}
 use mathlib.Core.List.{List, [], _∷_, _++_}
 use Prim.Native.Nat.{ℕ}
 use lib.ListN.{length, drop}

@@ -1,15 +1,15 @@
 -- What a decoded request points to stands in the message: a store name with its bytes, and a Write's bytes. Whoever takes a part of the message needs no other fact. Assumes nothing.
-use mathlib.Core.Path.{_≡_, refl, sym, ap, _∙_, subst}
+use mathlib.Core.Path.{_≡_, refl, ap, _∙_}
 use mathlib.Core.Bool.{Bool, true, false, cond, _&&_}
 use mathlib.Core.List.{List, [], _∷_}
-use Prim.Native.Nat.{ℕ, zero, suc, _+_, _≤_, _<_}
+use Prim.Native.Nat.{ℕ, zero, suc, _+_, _≤_}
 use native.Mathlib.Omega.{arith}
 use borrow.Author.Tests.{leb-true}
 use lib.Dec.{leb}
 use lib.ListN.{length, getD, take, drop, length-take, length-drop}
 use Rattle.laws.specs.All.{all, and-true}
 use Rattle.laws.specs.Bytes.{little, same, text, firstZero}
-use Rattle.laws.specs.Ranges.{part, length-part}
+use Rattle.laws.specs.Ranges.{part}
 use Rattle.protocol.specs.Numbers.{headerSize, storeNameMost, nameMost, openCommand, writeCommand, deleteCommand, statCommand, writeMetaCommand}
 use Rattle.protocol.specs.Names.{base, alnum, storeName, flashName, blobNamed}
 use Rattle.protocol.specs.Decode.{subcommand, bodyLength, fieldsAt, bodyFits, withName, asked, decoded}

@@ -1,4 +1,5 @@
 pub mod Numbers
+pub mod Sizes
 pub mod Names
 pub mod Decode
 pub mod Frame

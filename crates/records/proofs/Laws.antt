@@ -11,16 +11,12 @@ use borrow.Author.Tests.{le-leb, lt-leb, eq-eqb, ne-eqb}
 use lib.ListN.{length, getD, set, take, drop, length-append, length-drop}
 use lib.Seq.{sets, take-suc, getD-drop}
 use Rattle.laws.specs.Bytes.{little}
+use Rattle.laws.specs.Ranges.{sets-append}
 use Rattle.reader.proofs.Little.{in-rest}
 use Rattle.protocol.specs.Numbers.{success, answerSize}
 use Rattle.records.specs.declared.Record.the-variants.{Whole, Cut, End}
 use Rattle.records.specs.Records.{prefixSize, clockSize, lengthOf, recordAt}
 use Rattle.records.specs.Lines.{space, lineFeed, hexOf, hexes, answerText, lineOf, lineMost}
-
--- two runs of bytes, one behind the other
-pub sets-append : (a b l : List ℕ) (i : ℕ) → sets l i (a ++ b) ≡ sets (sets l i a) (i + length a) b
-sets-append [] b l i = rw add-zero
-sets-append (x ∷ a) b l i = sets-append a b (set l i x) (suc i) ∙ ap (λ (j : ℕ). sets (sets (set l i x) (suc i) a) j b) (omega arith)
 
 -- ---- hex digits
 pub hexes-length : (l : List ℕ) → length (hexes l) ≡ 2 * length l

@@ -1,16 +1,15 @@
 -- From a command on the part of a session to the state around it. Assumes nothing.
-use mathlib.Core.Path.{_≡_, refl, sym, _∙_, ap}
+use mathlib.Core.Path.{_≡_, sym, _∙_, ap}
 use mathlib.Core.List.{List}
-use Prim.Native.Nat.{ℕ, _*_}
+use Prim.Native.Nat.{ℕ}
 use lib.ListN.{getD, set}
-use lib.Seq.{set-getD}
-use Rattle.laws.specs.Ranges.{block, range-steady}
+use Rattle.laws.specs.Ranges.{block}
 use Rattle.laws.specs.Bits.{bit, putBit, put-bit}
 use Rattle.protocol.specs.Numbers.{rowWords, nameSize, slotSize}
 use Rattle.protocol.specs.Frame.{Reply, refused}
 use Rattle.state.specs.declared.row.Entry.{Entry}
 use Rattle.state.specs.Entry.{wordsOf}
-use Rattle.state.specs.State.{State, Rows, Slots, Flash, Row, Slot, Place, slot, flash, Body, placeOf, rowOf, slotOf, inRow, inBody, cell, cell-steady}
+use Rattle.state.specs.State.{State, Rows, Slots, Flash, Row, Slot, Place, slot, flash, Body, placeOf, rowOf, slotOf, inBody, cell, cell-steady}
 use Rattle.state.specs.Words.{freeRow}
 use Rattle.rules.specs.Store.{Command, Out, refuse}
 use Rattle.rules.specs.Session.{onPart, onPlace, onRow}
@@ -58,10 +57,6 @@ row-kept r x words table p = λ i. record { table = sym p i; rows = put-bit r (x
 -- a row that is freed
 pub row-freed : (r : ℕ) (x : Rows) (table : List ℕ) (rows : ℕ) → table ≡ block rowWords r .put (freeRow .words) (x .table) → rows ≡ putBit r 0 (x .rows) → rowOf r .put freeRow x ≡ record { table = table; rows = rows }
 row-freed r x table rows p q = λ i. record { table = sym p i; rows = sym q i }
-
--- ---- what is kept of a slot
-pub keep-block : (n k : ℕ) (l : List ℕ) → block n k .put (block n k .get l) l ≡ l
-keep-block n k l = range-steady 0 (k * n) n l
 
 -- a slot put back with other parts: names, committed, staged, slots used, slots committed, lengths
 module _ (k : ℕ) (b : Slot) (x y : Slots) where

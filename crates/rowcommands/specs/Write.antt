@@ -8,7 +8,6 @@ use lib.Seq.{sets}
 use borrow.Author.Tests.{leb-true}
 use Rattle.laws.specs.Ranges.{block}
 use Rattle.protocol.specs.Numbers.{rowWords, outOfRange, tooLong}
-use Rattle.protocol.specs.declared.Code.{Code}
 use Rattle.state.specs.State.{Row}
 use Rattle.commands.specs.declared.Said.{Said}
 use Rattle.commands.specs.declared.Said.the-variants.{Refused as SaidRefused, Done}

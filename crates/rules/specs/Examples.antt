@@ -15,6 +15,7 @@ use Rattle.crc.specs.Crc.{shift, shifts, byteStep, crcFrom, crc}
 use Rattle.protocol.specs.Numbers.{success, outOfRange, tooLong, writeCommand, rowCount, slotCount, slotSize, running, notFound, countCommand, openCommand, readCommand, sixteenBits, readOnly, readWrite, sessionLife, sweepEvery}
 use Rattle.protocol.specs.Decode.{decoded, numberOf, asked, bodyFits, crcFits, withName, fieldsAt}
 use Rattle.protocol.specs.Frame.{Reply, refused, done, reply, Answer, framed, header}
+use Rattle.protocol.specs.Sizes.{slot-size}
 use Rattle.protocol.specs.Names.{base, flashFolder, flashWord, nameForm, blobNamed, storeName, alnum}
 use Rattle.protocol.specs.declared.Blob.{Blob}
 use Rattle.protocol.specs.declared.Request.{Request}
@@ -137,11 +138,6 @@ fresh-counts : (t : ℕ) → respond t (header countCommand) fresh ≡ record { 
 fresh-counts t = count-answer t fresh fresh-sound ∙ ap (λ (n : ℕ). outcomeOf (success, sent countCommand (bytesOf 4 n)) fresh) counted-fresh
 
 -- ---- Read
--- the size of a slot's region
-pub slot-size : slotSize ≡ 4096
-unfolding slotSize
-slot-size = refl
-
 -- a store session's identifier has two bytes, and its region is whole
 module _ (n i : ℕ) (s : State) (h : Sees n i s) where
   good : Sound s

@@ -9,7 +9,7 @@ use Rattle.protocol.specs.Frame.{done, reply, statFields}
 use Rattle.protocol.specs.declared.FlashKind.{FlashKind}
 use Rattle.protocol.specs.declared.FlashKind.the-variants.{Image, Hash, Verify, Update, Cleanup}
 use Rattle.state.specs.declared.Phase.{Phase}
-use Rattle.state.specs.declared.Phase.the-variants.{Idle, Uploading, Verified}
+use Rattle.state.specs.declared.Phase.the-variants.{Uploading, Verified}
 use Rattle.state.specs.State.{Row, Flash}
 use Rattle.state.specs.Words.{wordOf, statusOf, stamped, withStatus, freeRow, emptyFlash}
 use Rattle.rules.specs.Store.{Command, read, write, commit, stat, close, writeMeta, outcome, Out, refuse, placed, bytesAfter, lengthAfter, commitFits, stateBits}

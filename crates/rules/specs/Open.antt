@@ -1,10 +1,10 @@
 -- Open, Delete and Stat: the commands that have a name.
 use mathlib.Core.Bool.{Bool, true, false, not, cond, _&&_, _||_}
-use mathlib.Core.List.{List, [], _∷_, _++_}
+use mathlib.Core.List.{List, [], _∷_}
 use mathlib.Core.Option.{Option, none, some}
-use Prim.Native.Nat.{ℕ, zero, suc, _+_}
-use lib.Dec.{eqb, leb}
-use lib.ListN.{length, replicate}
+use Prim.Native.Nat.{ℕ, zero, suc}
+use lib.Dec.{eqb}
+use lib.ListN.{replicate}
 use Rattle.laws.specs.Ranges.{part}
 use Rattle.laws.specs.Bits.{bit}
 use Rattle.laws.specs.Find.{first}
@@ -17,9 +17,9 @@ use Rattle.protocol.specs.declared.FlashKind.the-variants.{Image, Hash, Verify,
 use Rattle.protocol.specs.declared.Blob.{Blob}
 use Rattle.protocol.specs.declared.Blob.the-variants.{Store, Flash, Base, Unknown}
 use Rattle.state.specs.declared.Phase.{Phase}
-use Rattle.state.specs.declared.Phase.the-variants.{Idle, Uploading, Verified}
-use Rattle.state.specs.State.{State, Row, Slot, Flash as FlashBody, Place, slot, flash, Body, inRow, inBody, cell}
-use Rattle.state.specs.Words.{wordWith, freeSlot, blob, inUse, emptyFlash}
+use Rattle.state.specs.declared.Phase.the-variants.{Uploading}
+use Rattle.state.specs.State.{State, Row, Slot, Flash as FlashBody, Place, slot, flash, Body, inBody, cell}
+use Rattle.state.specs.Words.{wordWith, freeSlot, blob, inUse}
 use Rattle.state.specs.Soundness.{slotAt, isIdle, isVerified}
 use Rattle.rules.specs.Store.{withStaged}
 use Rattle.rules.specs.Flash.{withImage, withHash, withPhase, flashLength}

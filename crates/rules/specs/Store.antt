@@ -9,7 +9,7 @@ use Rattle.laws.specs.Ranges.{part}
 use Rattle.protocol.specs.Numbers.{slotSize, readMost, running, succeeded, failed, invalid, outOfRange, tooLong, notSupported, stateCommitting, stateCommitted, stateCommitError}
 use Rattle.protocol.specs.Frame.{Reply, refused, done, reply, statFields}
 use Rattle.state.specs.State.{Row, Slot}
-use Rattle.state.specs.Words.{wordOf, flagsIn, statusIn, cleanIn, statusOf, writes, stamped, withClean, freeRow, freeSlot}
+use Rattle.state.specs.Words.{wordOf, flagsIn, statusIn, cleanIn, writes, stamped, withClean, freeRow, freeSlot}
 
 -- what a session is asked; a job outcome, which is no message, is asked of the flash session
 pub data Command : Type 0 where

@@ -1,5 +1,5 @@
 -- Sweep: "due when clock ≥ last sweep + 60, sums unbounded. It acts as Close on each session with clock > stamp + 600 and status not 1, then notes the clock."
-use mathlib.Core.Bool.{Bool, true, false, not, cond, _&&_}
+use mathlib.Core.Bool.{Bool, not, cond, _&&_}
 use Prim.Native.Nat.{ℕ, zero, suc, _+_}
 use lib.Dec.{eqb, leb, ltb}
 use Rattle.protocol.specs.Numbers.{rowCount, sweepEvery, sessionLife, running}

@@ -88,10 +88,6 @@ found-none s at End e h = found-end s at e
 pub reply-fits : (t : ℕ) (m : List ℕ) (s : State) (a : List ℕ) {u : Served} → u ≡ served t m s a → (u .len ≤ answerSize) × (u .len ≤ length (u .answer))
 reply-fits t m s a e = subst (λ (u : Served). (u .len ≤ answerSize) × (u .len ≤ length (u .answer))) (sym e) (served-fits t m s a)
 
--- the bytes from `start` on up to `start + len` are the message
-pub message-is : (start len : ℕ) (b : List ℕ) → take (start + len - start) (drop start b) ≡ part start len b
-message-is start len b = let e : start + len - start ≡ len = omega arith in ap (λ (n : ℕ). take n (drop start b)) e
-
 -- its line is written
 pub step-is : (t : List ℕ) (at : ℕ) {u v : Served} {e : ℕ} {x : List ℕ} → u ≡ v → (e ≡ at + length (lineAfter u)) × (x ≡ sets t at (lineAfter u))
     → record { end = e; state = u .state; answer = u .answer; text = x } ≡ stepped v t at

@@ -20,6 +20,7 @@ use records::record_at;
 use records::write_line;
 use state::Control;
 use state::Phase;
+use state::SLOTS;
 
 // The control block of a fresh state, in which all that is lent is zeros.
 pub fn fresh() -> Control
@@ -29,8 +30,8 @@ pub fn fresh() -> Control
         rows: 0,
         slots: 0,
         committed: 0,
-        committed_len: [0; 16],
-        staged_len: [0; 16],
+        committed_len: [0; SLOTS],
+        staged_len: [0; SLOTS],
         phase: Phase::Idle,
         image_len: 0,
         hash_len: 0,

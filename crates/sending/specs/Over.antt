@@ -1,9 +1,9 @@
 -- A response does not show whether its fields stood in the answer buffer before it was written. Assumes nothing.
 use mathlib.Core.Path.{_≡_, refl, sym, _∙_, ap}
-use mathlib.Core.List.{List, [], _∷_, _++_, append-assoc}
+use mathlib.Core.List.{List, [], _∷_, _++_}
 use Prim.Native.Nat.{ℕ, suc, _+_}
 use native.Mathlib.Omega.{arith}
-use lib.ListN.{length, drop, set, length-append}
+use lib.ListN.{length, drop, set}
 use lib.Seq.{sets, drop-set-lt}
 use Rattle.laws.specs.Bytes.{bytesOf}
 use Rattle.crc.specs.Crc.{crc}

@@ -19,7 +19,7 @@ pub struct Sent {
 
 // Fields that stand in their place already get their header and CRC; how long the response is.
 fn seal(sub: u8, len: usize, answer: &mut [u8]) -> usize
-    requires { ⌜ 6 + len ≤ length (now answer) ⌝ }
+    requires { ⌜ fieldsAt + len ≤ length (now answer) ⌝ }
     ensures { λ r. ⌜ (r ≡ length (framed sub (reply (part fieldsAt len (now (answer .entry)))) .1)) × (now (answer .exit) ≡ answerAfter sub (reply (part fieldsAt len (now (answer .entry)))) (now (answer .entry))) ⌝ }
 {
     let end = FIELDS_AT + len;

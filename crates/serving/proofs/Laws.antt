@@ -1,5 +1,5 @@
 -- What soundness and decoding give to the commands' code. Assumes nothing.
-use mathlib.Core.Path.{_≡_, refl, sym, ap, _∙_, subst}
+use mathlib.Core.Path.{_≡_, sym, ap, _∙_, subst}
 use mathlib.Core.Bool.{Bool, true, false, cond, _&&_, _||_}
 use mathlib.Core.List.{List}
 use Prim.Native.Nat.{ℕ, _-_, _≤_, _<_}
@@ -13,20 +13,16 @@ use Rattle.laws.specs.Bytes.{zeros}
 use Rattle.protocol.specs.Names.{storeField}
 use Rattle.protocol.specs.Numbers.{rowCount, slotCount, slotSize}
 use Rattle.protocol.specs.Decode.{decoded}
-use Rattle.protocol.specs.Inside.{BlobInside, Inside, decoded-inside}
-use Rattle.protocol.specs.declared.Blob.{Blob}
-use Rattle.protocol.specs.declared.Blob.the-variants.{Store, Flash, Base, Unknown}
+use Rattle.protocol.specs.Inside.{Inside, decoded-inside}
 use Rattle.protocol.specs.declared.Request.{Request}
-use Rattle.protocol.specs.declared.Request.the-variants.{Delete, Stat}
 use Rattle.protocol.specs.Frame.{Reply}
 use Rattle.state.specs.State.{State, Slot, Shape}
 use Rattle.state.specs.Soundness.{slotAt, lentRight, valuesFit, flashFits, rowOk, rowsApart, hasWriter, usedSlot, unusedSlot, slotOk, namesApart, isSound}
-use Rattle.state.specs.Agree.{sound-of-test, test-of-sound}
+use Rattle.state.specs.Agree.{sound-of-test}
 use Rattle.rules.specs.Store.{write}
 use Rattle.rules.specs.Session.{by, onSession}
 use Rattle.rules.specs.Sweep.{swept}
 use Rattle.guarantees.specs.Keep.{swept-sound}
-use Rattle.places.specs.Named.{InMessage}
 
 -- ---- the lengths of slot k fit
 -- the tests of a length, out of a used slot's and out of an unused slot's
@@ -72,18 +68,6 @@ swept-shape t s x h e = subst Shape (sym e) (swept-sound t s (sound-of-test s h)
 -- ---- what a request points to stands in the message
 pub inside-of : (m : List ℕ) (p q : Request) → p ≡ decoded m → p ≡ q → Inside m q
 inside-of m p q d e = subst (Inside m) (sym d ∙ e) (decoded-inside m)
-
-pub in-message : (m : List ℕ) (b : Blob) → BlobInside m b → InMessage b (length m)
-in-message m (Store start len) i = (i .ends, i .short)
-in-message m (Flash k) i = tt
-in-message m Base i = tt
-in-message m Unknown i = tt
-
-pub delete-inside : (m : List ℕ) (p : Request) (b : Blob) → p ≡ decoded m → p ≡ Delete b → InMessage b (length m)
-delete-inside m p b d e = in-message m b (inside-of m p (Delete b) d e)
-
-pub stat-inside : (m : List ℕ) (p : Request) (b : Blob) → p ≡ decoded m → p ≡ Stat b → InMessage b (length m)
-stat-inside m p b d e = in-message m b (inside-of m p (Stat b) d e)
 
 -- a Write's bytes, as `&message[start..]`
 pub write-rest : (id t offset start : ℕ) (m : List ℕ) (s : State) (x : Reply × State) → x ≡ onSession (by id) t (write offset (take (length m - start) (drop start m))) s

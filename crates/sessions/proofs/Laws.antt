@@ -1,10 +1,9 @@
 -- From the row that was found to the session that was asked for. Assumes nothing.
 use mathlib.Core.Path.{_≡_, refl, sym, _∙_, ap}
-use mathlib.Core.Bool.{Bool, true, cond}
+use mathlib.Core.Bool.{true}
 use mathlib.Core.List.{List}
-use mathlib.Core.Option.{Option, none, some}
+use mathlib.Core.Option.{Option, none}
 use Prim.Native.Nat.{ℕ, _*_, _≤_, _<_}
-use native.Mathlib.Omega.{arith}
 use lib.Dec.{eqb, leb}
 use borrow.Author.Tests.{leb-true}
 use lib.ListN.{getD, length}
@@ -12,9 +11,8 @@ use Rattle.laws.specs.All.{and-true}
 use Rattle.laws.specs.Ranges.{block}
 use Rattle.laws.specs.Bits.{bit}
 use Rattle.laws.specs.Find.{first, found}
-use Rattle.protocol.specs.Numbers.{rowCount, rowWords, slotCount, notFound, notSupported}
+use Rattle.protocol.specs.Numbers.{rowCount, rowWords, slotCount, notSupported}
 use Rattle.protocol.specs.Frame.{Reply, refused}
-use Rattle.protocol.specs.Names.{kindOf}
 use Rattle.state.specs.declared.mask.Found.{Found}
 use Rattle.state.specs.declared.mask.Found.the-variants.{At, Nothing}
 use Rattle.state.specs.declared.row.Entry.{Entry}
@@ -25,12 +23,12 @@ use Rattle.state.specs.Words.{blob}
 use Rattle.state.specs.Agree.{place-flash}
 use Rattle.rules.specs.Store.{Command, read, writeMeta, refuse, onStore}
 use Rattle.rules.specs.Flash.{onFlash}
-use Rattle.rules.specs.Session.{Address, by, job, meant, absent, onPart, onPlace, onRow, onFound, onSession}
+use Rattle.rules.specs.Session.{Address, meant, absent, onPart, onPlace, onRow, onFound, onSession}
 use Rattle.buffers.specs.declared.Wanted.{Wanted}
-use Rattle.buffers.specs.declared.Wanted.the-variants.{Id, Blob, Flash}
+use Rattle.buffers.specs.declared.Wanted.the-variants.{Flash}
 use Rattle.buffers.specs.Lookup.{sought, rowSought}
 use Rattle.commands.specs.Left.{fieldsLaid}
-use Rattle.rowcommands.specs.OnRow.{rowRead, refuses}
+use Rattle.rowcommands.specs.OnRow.{refuses}
 use Rattle.rowcommands.specs.Lent.{RowIs}
 
 -- whom the rules mean by what is looked up

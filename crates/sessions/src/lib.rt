@@ -2,7 +2,6 @@
 ghost use mathlib.Core.Path.{_≡_};
 ghost use mathlib.Core.List.{List};
 ghost use Prim.Native.Nat.{ℕ, _≤_, _<_};
-ghost use lib.ListN.{length};
 ghost use Rattle.protocol.specs.Numbers.{slotCount, readMost};
 ghost use Rattle.state.specs.State.{stateOf};
 ghost use Rattle.rules.specs.Store.{read, write, commit, stat, close, writeMeta, outcome};

@@ -1,9 +1,8 @@
 // Whether a state is sound, clause by clause in the order of document 01.
 ghost use mathlib.Core.Path.{_≡_};
-ghost use mathlib.Core.Bool.{Bool};
 ghost use mathlib.Core.List.{List};
 ghost use Prim.Native.Nat.{ℕ};
-ghost use Rattle.state.specs.State.{State, stateOf};
+ghost use Rattle.state.specs.State.{stateOf};
 ghost use Rattle.state.specs.Soundness.{lentRight, valuesFit, flashFits, isSound};
 use sound_rows::all_apart;
 use sound_rows::rows_ok;

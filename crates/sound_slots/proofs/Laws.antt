@@ -3,7 +3,7 @@ use mathlib.Core.Path.{_≡_, refl, sym, _∙_, ap}
 use mathlib.Core.Bool.{Bool, true, false, _&&_, true≢false}
 use mathlib.Core.List.{List, _++_}
 use Prim.Native.Nat.{ℕ, _+_, _*_, _-_, _≤_}
-use native.Mathlib.Nat.{add-sub-cancel-left, suc-mul}
+use native.Mathlib.Nat.{suc-mul}
 use native.Mathlib.Numerals.{add-one}
 use native.Mathlib.Omega.{arith}
 use lib.ListN.{length, take, drop, replicate, length-drop, take-append-drop}
@@ -12,10 +12,6 @@ use Rattle.laws.specs.Bytes.{zeros, zeros-true, zeros-append, replicate-zeros, 
 use Rattle.laws.specs.Ranges.{part}
 use Rattle.protocol.specs.Numbers.{nameSize, slotSize}
 use Rattle.protocol.specs.Names.{storeName, storeField}
-
--- `&l[a..a + n]`
-pub cut : (a n : ℕ) (l : List ℕ) → take (a + n - a) (drop a l) ≡ part a n l
-cut a n l = rw add-sub-cancel-left
 
 -- ---- a region by blocks of 1,024 bytes: the first j from a place on are zero
 unfoldable pub blocksZero : ℕ → List ℕ → ℕ → Bool

@@ -1,28 +1,27 @@
 -- The paper's test and soundness by sessions say the same. Assumes nothing.
-use mathlib.Core.Path.{_≡_, refl, sym, _∙_, ap, ap₂, subst}
+use mathlib.Core.Path.{_≡_, refl, sym, _∙_, ap, subst}
 use mathlib.Core.Logic.{_≢_, _⊎_, inl, inr}
 use mathlib.Core.Bool.{Bool, true, false, not, cond, _&&_, _||_, true≢false}
-use mathlib.Core.List.{List, [], _∷_}
-use Prim.Native.Nat.{ℕ, zero, suc, _+_, _*_, _/_, _%_, _≤_, _<_}
+use mathlib.Core.List.{[], _∷_}
+use Prim.Native.Nat.{ℕ, zero, suc, _+_, _*_, _%_, _≤_, _<_}
 use native.Mathlib.Omega.{arith}
 use native.Mathlib.Decide.{decLt, ℕ-discrete}
 use lib.Dec.{eqb, ltb, leb}
-use borrow.Author.Tests.{eqb-true, eqb-false, leb-true, leb-false, ltb-true, ltb-false, eq-eqb, ne-eqb, le-leb, lt-ltb, le-ltb, lt-leb, not-true, not-false}
-use lib.ListN.{length, getD, replicate, length-replicate}
+use borrow.Author.Tests.{eqb-true, eqb-false, leb-true, ltb-true, ltb-false, eq-eqb, ne-eqb, le-leb, lt-ltb, le-ltb, not-true, not-false}
+use lib.ListN.{replicate}
 use Rattle.laws.specs.All.{all, all-at, all-of, all-fails, all-false, and-true, and-both, pairs, pairs-at, pairs-of, Or, this, that, or-true, or-left, or-right, or-false, clash-not, not-clash}
-use Rattle.laws.specs.Bytes.{zeros, zeros-true, replicate-zeros, same, same-true, same-false, ne-same}
-use Rattle.laws.specs.Ranges.{length-part, block-fits}
+use Rattle.laws.specs.Bytes.{zeros, zeros-true, replicate-zeros, same, same-false, ne-same}
 use Rattle.laws.specs.Bits.{bit, bit-lt}
-use Rattle.protocol.specs.Numbers.{rowCount, slotCount, rowWords, nameSize, slotSize, imageSize, hashSize, sixteenBits, wordLimit, cleanupBlob}
+use Rattle.protocol.specs.Numbers.{rowCount, slotCount, nameSize, slotSize, sixteenBits, wordLimit, cleanupBlob}
 use Rattle.protocol.specs.declared.FlashKind.{FlashKind}
 use Rattle.protocol.specs.declared.FlashKind.the-variants.{Image, Hash, Verify, Update, Cleanup}
 use Rattle.protocol.specs.Names.{storeField, kindOf}
 use Rattle.state.specs.declared.Phase.{Phase}
 use Rattle.state.specs.declared.Phase.the-variants.{Idle, Uploading, Verified}
-use Rattle.state.specs.State.{State, Row, Slot, Flash, Place, slot, flash, Body, Separate, InRange, placeOf, inRow, inBody, Shape, FitsSlot, row-view-fits, body-view-fits}
-use Rattle.state.specs.Words.{idOf, blobOf, wordOf, flagsIn, statusIn, cleanIn, writingIn, freeSlot, ident, blob, inUse, Live}
+use Rattle.state.specs.State.{State, Slot, Flash, Place, slot, flash, Separate, InRange, placeOf, inRow, inBody, Shape, FitsSlot, row-view-fits, body-view-fits}
+use Rattle.state.specs.Words.{wordOf, flagsIn, statusIn, cleanIn, writingIn, freeSlot, ident, blob, inUse, Live}
 use Rattle.state.specs.Soundness.{slotAt, isIdle, isUploading, isVerified, lentRight, valuesFit, flashFits, storeRow, jobFits, flashRow, usedRow, rowOk, rowsClash, rowsApart, writesSlot, hasWriter, usedSlot, unusedSlot, slotOk, namesApart, isSound}
-use Rattle.state.specs.Facts.{StoreFacts, StoreSession, StoreIdle, PhaseOk, FlashIdle, FlashFacts, FlashSession, Session, Unheld, Sound}
+use Rattle.state.specs.Facts.{StoreSession, StoreIdle, PhaseOk, FlashIdle, FlashSession, Session, Unheld, Sound}
 
 -- ---- phases
 pub uploading-is : (p : Phase) → isUploading p ≡ true → p ≡ Uploading

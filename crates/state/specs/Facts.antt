@@ -1,11 +1,10 @@
 -- The same by sessions: what holds of each open session and its part, and of each part that no session has.
-use mathlib.Core.Path.{_≡_, refl, sym, _∙_, ap}
+use mathlib.Core.Path.{_≡_}
 use mathlib.Core.Logic.{_≢_}
-use mathlib.Core.Bool.{Bool, true, false}
-use mathlib.Core.List.{List, [], _∷_}
-use Prim.Native.Nat.{ℕ, _+_, _*_, _/_, _%_, _≤_, _<_}
-use lib.ListN.{length, getD}
-use Rattle.protocol.specs.Numbers.{rowCount, slotCount, rowWords, nameSize, slotSize, imageSize, hashSize, sixteenBits, wordLimit, cleanUnit, readOnly, readWrite, writeOnly, cleanupBlob}
+use mathlib.Core.Bool.{true}
+use mathlib.Core.List.{[], _∷_}
+use Prim.Native.Nat.{ℕ, _+_, _*_, _%_, _≤_, _<_}
+use Rattle.protocol.specs.Numbers.{rowCount, slotCount, slotSize, imageSize, hashSize, sixteenBits, wordLimit, cleanUnit, writeOnly, cleanupBlob}
 use Rattle.protocol.specs.declared.FlashKind.{FlashKind}
 use Rattle.protocol.specs.declared.FlashKind.the-variants.{Image, Hash, Verify, Update, Cleanup}
 use Rattle.protocol.specs.Names.{storeField, kindOf}

@@ -1,5 +1,5 @@
 -- A fresh state is sound. Assumes nothing.
-use mathlib.Core.Path.{_≡_, refl, sym, _∙_, ap, subst}
+use mathlib.Core.Path.{_≡_, refl, sym, subst}
 use mathlib.Core.Logic.{_≢_}
 use mathlib.Core.Bool.{true}
 use Prim.Native.Nat.{ℕ, _*_, _<_}
@@ -9,10 +9,10 @@ use Rattle.laws.specs.Ranges.{part-replicate, block-fits}
 use Rattle.laws.specs.Bits.{bit, bit-zero}
 use Rattle.protocol.specs.Numbers.{rowCount, slotCount, rowWords, nameSize, slotSize, imageSize, hashSize}
 use Rattle.state.specs.declared.Phase.the-variants.{Idle}
-use Rattle.state.specs.State.{State, Place, slot, flash, Separate, InRange, placeOf, inBody}
+use Rattle.state.specs.State.{Place, slot, flash, Separate, InRange, placeOf, inBody}
 use Rattle.state.specs.Words.{freeSlot, blob, Live, fresh}
 use Rattle.state.specs.Soundness.{slotAt, isSound}
-use Rattle.state.specs.Facts.{StoreIdle, FlashIdle, Unheld, Sound}
+use Rattle.state.specs.Facts.{StoreIdle, Unheld, Sound}
 use Rattle.state.specs.Agree.{test-of-sound}
 
 no-row : (r : ℕ) → bit r 0 ≡ 1 → ⊥

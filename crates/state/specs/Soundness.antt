@@ -1,19 +1,18 @@
 -- When a state is sound: the paper's paragraph, as a test.
 use mathlib.Core.Bool.{Bool, true, false, not, cond, _&&_, _||_}
-use mathlib.Core.List.{List, [], _∷_}
-use Prim.Native.Nat.{ℕ, _+_, _*_, _/_, _%_, _≤_, _<_}
+use Prim.Native.Nat.{ℕ, _*_}
 use lib.Dec.{eqb, ltb, leb}
-use lib.ListN.{length, getD}
+use lib.ListN.{length}
 use Rattle.laws.specs.All.{all, pairs}
 use Rattle.laws.specs.Bytes.{same, zeros}
-use Rattle.protocol.specs.Numbers.{rowCount, slotCount, rowWords, nameSize, slotSize, imageSize, hashSize, sixteenBits, wordLimit, readOnly, readWrite, writeOnly, succeeded, untried, imageBlob, hashBlob, verifyBlob, updateBlob, cleanupBlob}
+use Rattle.protocol.specs.Numbers.{rowCount, slotCount, rowWords, nameSize, slotSize, imageSize, hashSize, sixteenBits, wordLimit, readOnly, readWrite, writeOnly, succeeded, untried, cleanupBlob}
 use Rattle.protocol.specs.declared.FlashKind.{FlashKind}
 use Rattle.protocol.specs.declared.FlashKind.the-variants.{Image, Hash, Verify, Update, Cleanup}
 use Rattle.protocol.specs.Names.{storeField, kindOf}
 use Rattle.state.specs.declared.Phase.{Phase}
 use Rattle.state.specs.declared.Phase.the-variants.{Idle, Uploading, Verified}
 use Rattle.state.specs.State.{State, Row, Slot, Flash, slot, inRow, inBody}
-use Rattle.state.specs.Words.{idOf, blobOf, wordOf, flagsIn, statusIn, cleanIn, statusOf, cleanOf, ident, blob, inUse}
+use Rattle.state.specs.Words.{idOf, blobOf, wordOf, flagsIn, statusIn, cleanIn, ident, blob, inUse}
 
 -- the slot k of the state
 abbrev pub slotAt : ℕ → State → Slot

@@ -1,21 +1,17 @@
 -- The whole state, by groups, and what one session has of it: its row, and its slot or the flash.
-use mathlib.Core.Path.{_≡_, refl, sym, _∙_, ap, ap₂, subst}
-use mathlib.Core.Logic.{_≢_, Ne·symm, _⊎_, inl, inr}
-use native.Mathlib.Decide.{ℕ-discrete}
-use native.Mathlib.Omega.{arith}
-use mathlib.Core.List.{List, [], _∷_, _++_}
-use Prim.Native.Nat.{ℕ, zero, suc, _+_, _*_, _≤_, _<_}
-use native.Mathlib.Nat.{mod-eq-of-lt}
-use mathlib.Core.Bool.{Bool, true, false, cond}
+use mathlib.Core.Path.{_≡_, refl, sym, _∙_}
+use mathlib.Core.Logic.{_≢_, Ne·symm}
+use mathlib.Core.List.{List}
+use Prim.Native.Nat.{ℕ, _*_, _<_}
+use mathlib.Core.Bool.{cond}
 use lib.Dec.{ltb}
 use lib.ListN.{length, getD, set, take, length-set}
 use lib.Seq.{length-sets, getD-set-same}
-use Rattle.laws.specs.Lens.{Lens, Indep, Steady, Field, into, into-indep, into-steady, fields-indep, both, both-indep, both-steady, indep-sym}
-use Rattle.laws.specs.Ranges.{block, block-indep, block-fits, range-steady, range-get-put, length-part, element, element-indep, element-steady}
+use Rattle.laws.specs.Lens.{Lens, Indep, Steady, Field, into, into-indep, into-steady, both, both-indep, both-steady, indep-sym}
+use Rattle.laws.specs.Ranges.{block, block-indep, block-fits, block-steady, range-get-put, length-part, element, element-indep, element-steady}
 use Rattle.laws.specs.Bits.{flag-kept, bit-lt, put-lt, bit, putBit, bits, bits-indep, put-bit}
 use Rattle.protocol.specs.Numbers.{rowCount, slotCount, rowWords, nameSize, slotSize, imageSize, hashSize, sixteenBits}
 use Rattle.state.specs.declared.Phase.{Phase}
-use Rattle.state.specs.declared.Phase.the-variants.{Idle, Uploading, Verified}
 use Rattle.state.specs.declared.Control.{Control}
 
 -- the session table and the mask of rows used
@@ -130,7 +126,7 @@ rowOf-indep r q n =
     }
 
 rowOf-steady : (r : ℕ) → Steady (rowOf r)
-rowOf-steady r x = λ i. record { table = range-steady 0 (r * 4) 4 (x .table) i; rows = put-bit r (x .rows) i }
+rowOf-steady r x = λ i. record { table = block-steady 0 4 r (x .table) i; rows = put-bit r (x .rows) i }
 
 -- a session's row, in the state
 abbrev pub inRow : ℕ → Lens State Row
@@ -195,11 +191,11 @@ slotOf-indep k l h =
       };
     }
 
-slotOf-steady : (k : ℕ) → Steady (slotOf k)
+pub slotOf-steady : (k : ℕ) → Steady (slotOf k)
 slotOf-steady k x = λ i. record {
-  names = range-steady 0 (k * nameSize) nameSize (x .names) i;
-  committed = range-steady 0 (k * slotSize) slotSize (x .committed) i;
-  staged = range-steady 0 (k * slotSize) slotSize (x .staged) i;
+  names = block-steady 0 nameSize k (x .names) i;
+  committed = block-steady 0 slotSize k (x .committed) i;
+  staged = block-steady 0 slotSize k (x .staged) i;
   slots = put-bit k (x .slots) i;
   marks = put-bit k (x .marks) i;
   committedLens = element-steady 0 k (x .committedLens) i;

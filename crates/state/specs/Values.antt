@@ -1,7 +1,7 @@
 -- The control block with the flash's values replaced.
 use Rattle.state.specs.declared.Control.{Control}
 use Rattle.state.specs.declared.Phase.{Phase}
-use Rattle.state.specs.declared.Phase.the-variants.{Idle, Uploading, Verified}
+use Rattle.state.specs.declared.Phase.the-variants.{Idle}
 
 -- another phase
 abbrev pub inPhase : Control → Phase → Control

@@ -1,14 +1,13 @@
 -- The words of a row: identifier; blob; flags, job status and clean; stamp.
-use mathlib.Core.Bool.{Bool, true, false, cond, _&&_}
-use mathlib.Core.List.{List, [], _∷_}
+use mathlib.Core.Bool.{Bool}
+use mathlib.Core.List.{[], _∷_}
 use Prim.Native.Nat.{ℕ, _+_, _*_, _/_, _%_, max, _<_}
 use mathlib.Core.Path.{_≡_}
 use lib.Dec.{eqb}
 use native.Mathlib.Omega.{arith}
 use lib.ListN.{getD, set, replicate}
 use Rattle.protocol.specs.Numbers.{rowCount, slotCount, rowWords, wordLimit, statusUnit, cleanUnit, nameSize, slotSize, imageSize, hashSize}
-use Rattle.state.specs.declared.Phase.{Phase}
-use Rattle.state.specs.declared.Phase.the-variants.{Idle, Uploading, Verified}
+use Rattle.state.specs.declared.Phase.the-variants.{Idle}
 use Rattle.state.specs.State.{State, Row, Slot, Flash, inRow}
 
 abbrev pub idOf : Row → ℕ

@@ -11,7 +11,7 @@ use Rattle.laws.specs.Bits.{bit}
 use Rattle.laws.specs.Find.{first}
 use Rattle.protocol.specs.Numbers.{slotCount, rowWords, notFound, stateCommitted}
 use Rattle.protocol.specs.Names.{kindOf, flashNumber}
-use Rattle.protocol.specs.Frame.{Reply, refused, reply, statFields}
+use Rattle.protocol.specs.Frame.{refused, reply, statFields}
 use Rattle.protocol.specs.declared.Blob.the-variants.{Store, Flash}
 use Rattle.protocol.specs.declared.FlashKind.{FlashKind}
 use Rattle.state.specs.State.{State, Place, slot, flash, placeOf, inBody}

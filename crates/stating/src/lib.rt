@@ -5,12 +5,12 @@ ghost use Prim.Native.Nat.{ℕ, _+_, _*_, _<_, _≤_};
 ghost use lib.ListN.{length};
 ghost use Rattle.protocol.specs.Numbers.{rowCount, rowWords, slotCount, nameSize};
 ghost use Rattle.protocol.specs.Frame.{reply};
+ghost use Rattle.protocol.specs.Inside.{BlobInside};
 ghost use Rattle.protocol.specs.declared.Blob.the-variants.{Store, Flash};
 ghost use Rattle.state.specs.State.{stateOf};
 ghost use Rattle.rules.specs.Session.{statRow};
 ghost use Rattle.rules.specs.Open.{statBlob};
 ghost use Rattle.commands.specs.Left.{replyOf};
-ghost use Rattle.places.specs.Named.{InMessage};
 use buffers::Wanted;
 use buffers::find_row;
 use commands::Said;
@@ -92,7 +92,7 @@ fn stat_flash(kind: FlashKind, control: Control, table: &[u32]) -> Said
 
 // Stat: by what the name names; the base has zeros. No stamp changes.
 pub fn stat(blob: Blob, message: &[u8], control: Control, table: &[u32], names: &[u8]) -> Said
-    requires { ⌜ InMessage blob (length (now message)) × ((length (now table) ≡ rowCount * rowWords) × (length (now names) ≡ slotCount * nameSize)) ⌝ }
+    requires { ⌜ BlobInside (now message) blob × ((length (now table) ≡ rowCount * rowWords) × (length (now names) ≡ slotCount * nameSize)) ⌝ }
     ensures { λ x. ⌜ ((committed staged image hash answer : List ℕ) → replyOf x answer ≡ statBlob blob (now (message .entry)) (stateOf control (now (table .entry)) (now (names .entry)) committed staged image hash)) ⌝ }
 {
     match blob {

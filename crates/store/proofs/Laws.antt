@@ -2,32 +2,32 @@
 use mathlib.Core.Path.{_≡_, refl, sym, _∙_, ap}
 use mathlib.Core.Bool.{Bool, true, false, cond}
 use mathlib.Core.List.{List, [], _∷_}
-use Prim.Native.Nat.{ℕ, _+_, _*_, _≤_, _<_, max, min}
+use Prim.Native.Nat.{ℕ, _+_, _*_, _≤_, _<_, max}
 use native.Mathlib.Omega.{arith}
 use lib.Dec.{eqb}
-use borrow.Author.Tests.{ne-eqb, eqb-false}
+use borrow.Author.Tests.{ne-eqb}
 use lib.ListN.{getD, set, length, replicate}
 use lib.Seq.{sets, set-getD}
-use Rattle.laws.specs.Ranges.{part, block, block-fits, range-write, part-sets}
-use Rattle.laws.specs.Bits.{bit, putBit, put-bit, bit-lt}
+use Rattle.laws.specs.Ranges.{part, block, block-fits, range-write, part-sets, block-steady}
+use Rattle.laws.specs.Bits.{bit, putBit, put-bit}
 use Rattle.protocol.specs.Numbers.{slotCount, rowWords, nameSize, slotSize, notSupported, invalid}
 use Rattle.protocol.specs.Decode.{fieldsAt}
 use Rattle.protocol.specs.Frame.{Reply, refused, done, reply, statFields}
 use Rattle.state.specs.declared.row.Entry.{Entry}
 use Rattle.state.specs.Entry.{wordsOf, lifted, cleanSet}
-use Rattle.state.specs.State.{State, Rows, Slots, Row, Slot, slot, slotOf, inBody}
+use Rattle.state.specs.State.{State, Slots, Row, Slot, slot, slotOf, slotOf-steady}
 use Rattle.state.specs.Words.{writes, writingIn, stamped, withClean, freeRow, freeSlot}
 use Rattle.state.specs.Soundness.{slotAt}
 use Rattle.state.specs.Agree.{place-slot}
 use Rattle.rules.specs.Store.{Command, read, write, commit, stat, close, Out, refuse, onStore, readStore, readCount, seenLength, seenBytes, writeStore, placed, stored, withStaged, bytesAfter, lengthAfter, commitFits, commitStore, commitWriting, committedSlot, closedSlot, closedWriting, stateBits, statStore}
 use Rattle.rules.specs.Session.{onRow}
-use Rattle.buffers.specs.Sizes.{slot-size}
+use Rattle.protocol.specs.Sizes.{slot-size}
 use Rattle.commands.specs.declared.Said.{Said}
 use Rattle.commands.specs.Left.{replyOf, fieldsLaid}
 use Rattle.rowcommands.specs.declared.Written.{Written}
-use Rattle.rowcommands.specs.declared.Written.the-variants.{Refused, Length}
 use Rattle.rowcommands.specs.Write.{written, written-has, saidBy, lengthBy, regionBy, tableBy}
-use Rattle.rowcommands.specs.OnRow.{rowRead, does, refuses, with, put-slot, row-kept, row-freed, keep-block, slot-put}
+use Rattle.buffers.specs.Slots.{stagedAs, staged-put}
+use Rattle.rowcommands.specs.OnRow.{rowRead, does, refuses, with, put-slot, row-kept, row-freed, slot-put}
 
 -- the row after an accepted Write of ws
 abbrev pub writtenRow : List ℕ → Entry → Entry
@@ -80,19 +80,6 @@ module _ (t : ℕ) (x : Row) (b : Slot) where
   close-new p q = rw (p, q)
 
 -- ---- on the store
--- the store with other staged bytes and lengths
-abbrev pub stagedAs : List ℕ → List ℕ → Slots → Slots
-stagedAs g l x = record { names = x .names; committed = x .committed; staged = g; slots = x .slots; marks = x .marks; committedLens = x .committedLens; stagedLens = l }
-
-module _ (k : ℕ) (x : Slots) where
-  staged-put : (g l : List ℕ) (n : ℕ) → g ≡ block slotSize k .put l (x .staged) → slotOf k .put (withStaged l n (slotOf k .get x)) x ≡ stagedAs g (set (x .stagedLens) k n) x
-  staged-put g l n p = slot-put k (withStaged l n (slotOf k .get x)) x (stagedAs g (set (x .stagedLens) k n) x)
-      (keep-block nameSize k (x .names)) (keep-block slotSize k (x .committed)) (sym p) (put-bit k (x .slots)) (put-bit k (x .marks)) (set-getD (x .committedLens) k 0) refl
-
-  slot-steady : slotOf k .put (slotOf k .get x) x ≡ x
-  slot-steady = slot-put k (slotOf k .get x) x x
-      (keep-block nameSize k (x .names)) (keep-block slotSize k (x .committed)) (keep-block slotSize k (x .staged)) (put-bit k (x .slots)) (put-bit k (x .marks)) (set-getD (x .committedLens) k 0) (set-getD (x .stagedLens) k 0)
-
 -- bytes stored into region k, as the code counts them
 region-written : (k offset : ℕ) (ws l : List ℕ) → k < slotCount → length l ≡ slotCount * slotSize → offset + length ws ≤ slotSize
     → sets l (k * 4096 + offset) ws ≡ block slotSize k .put (sets (block slotSize k .get l) offset ws) l
@@ -168,7 +155,7 @@ module _ (s : State) (r : ℕ) (e : Entry) (words : block rowWords r .get (s .se
         ≡ onRow r t (commit len rest) s
     commit-is table c marks p q u1 u2 u3 =
         part-does (commit len rest) done (lifted (cleanSet e 1) t) (committedSlot (slotAt (e .blob) s)) table _ (commit-writer t (rowRead r e s) (slotAt (e .blob) s) len rest p q) u1
-        (slot-put (e .blob) (committedSlot (slotAt (e .blob) s)) (s .store) _ (keep-block nameSize (e .blob) (s .store .names)) (sym u2) (keep-block slotSize (e .blob) (s .store .staged)) (put-bit (e .blob) (s .store .slots)) (sym u3) refl (set-getD (s .store .stagedLens) (e .blob) 0))
+        (slot-put (e .blob) (committedSlot (slotAt (e .blob) s)) (s .store) _ (block-steady 0 nameSize (e .blob) (s .store .names)) (sym u2) (block-steady 0 slotSize (e .blob) (s .store .staged)) (put-bit (e .blob) (s .store .slots)) (sym u3) refl (set-getD (s .store .stagedLens) (e .blob) 0))
 
   -- Close
   module _ (table : List ℕ) (rows : ℕ) (u1 : table ≡ block rowWords r .put (freeRow .words) (s .sessions .table)) (u2 : rows ≡ putBit r 0 (s .sessions .rows)) where
@@ -178,34 +165,22 @@ module _ (s : State) (r : ℕ) (e : Entry) (words : block rowWords r .get (s .se
         does s r e words (slot (e .blob)) (place-slot (e .blob) low) t close done freeRow b _ h (put-slot s r freeRow _ (row-freed r (s .sessions) table rows u1 u2) (e .blob) b slots u)
 
     pub close-read : eqb (writingIn (e .word)) 1 ≡ false → (done, with s (record { table = table; rows = rows }) (s .store) (s .flashGroup)) ≡ onRow r t close s
-    close-read p = closes (slotAt (e .blob) s) (s .store) (close-reader t (rowRead r e s) (slotAt (e .blob) s) p) (slot-steady (e .blob) (s .store))
+    close-read p = closes (slotAt (e .blob) s) (s .store) (close-reader t (rowRead r e s) (slotAt (e .blob) s) p) (slotOf-steady (e .blob) (s .store))
 
     pub close-kept : (g : List ℕ) → eqb (writingIn (e .word)) 1 ≡ true → eqb (bit (e .blob) (s .store .marks)) 1 ≡ true → g ≡ block slotSize (e .blob) .put (replicate slotSize 0) (s .store .staged)
         → (done, with s (record { table = table; rows = rows }) (stagedAs g (set (s .store .stagedLens) (e .blob) 0) (s .store)) (s .flashGroup)) ≡ onRow r t close s
     close-kept g p q u = closes _ _ (close-writer t (rowRead r e s) (slotAt (e .blob) s) p q) (staged-put (e .blob) (s .store) g (replicate slotSize 0) 0 u)
 
-    pub close-fresh : (n c g : List ℕ) (slots : ℕ) → eqb (writingIn (e .word)) 1 ≡ true → eqb (bit (e .blob) (s .store .marks)) 1 ≡ false
-        → n ≡ block nameSize (e .blob) .put (replicate nameSize 0) (s .store .names) → c ≡ block slotSize (e .blob) .put (replicate slotSize 0) (s .store .committed)
-        → g ≡ block slotSize (e .blob) .put (replicate slotSize 0) (s .store .staged) → slots ≡ putBit (e .blob) 0 (s .store .slots)
-        → (
-          done,
-          with s (record { table = table; rows = rows })
-              (record { names = n; committed = c; staged = g; slots = slots; marks = s .store .marks; committedLens = set (s .store .committedLens) (e .blob) 0; stagedLens = set (s .store .stagedLens) (e .blob) 0 }) (s .flashGroup),
-        )
-        ≡ onRow r t close s
-    close-fresh n c g slots p q u3 u4 u5 u6 =
-        closes freeSlot _ (close-new t (rowRead r e s) (slotAt (e .blob) s) p q)
-        (slot-put (e .blob) freeSlot (s .store) _ (sym u3) (sym u4) (sym u5) (sym u6) (ap (λ (y : ℕ). putBit (e .blob) y (s .store .marks)) (sym unmarked) ∙ put-bit (e .blob) (s .store .marks)) refl refl)
-      where
-        unmarked : bit (e .blob) (s .store .marks) ≡ 0
-        unmarked = let z : (bit (e .blob) (s .store .marks) ≡ 1) → ⊥ = eqb-false (bit (e .blob) (s .store .marks)) 1 q in omega (arith, z, bit-lt (e .blob) (s .store .marks))
+    pub close-fresh : eqb (writingIn (e .word)) 1 ≡ true → eqb (bit (e .blob) (s .store .marks)) 1 ≡ false
+        → (done, with s (record { table = table; rows = rows }) (slotOf (e .blob) .put freeSlot (s .store)) (s .flashGroup)) ≡ onRow r t close s
+    close-fresh p q = closes freeSlot _ (close-new t (rowRead r e s) (slotAt (e .blob) s) p q) refl
 
   -- Read
   read-does : (offset count : ℕ) (table : List ℕ) → table ≡ block rowWords r .put (wordsOf (lifted e t)) (s .sessions .table)
       → (reply (part offset (readCount count offset (seenLength (writes (rowRead r e s)) (slotAt (e .blob) s))) (seenBytes (writes (rowRead r e s)) (slotAt (e .blob) s))), with s (record { table = table; rows = s .sessions .rows }) (s .store) (s .flashGroup))
       ≡ onRow r t (read offset count) s
   unfolding onStore readStore
-  read-does offset count table p = part-does (read offset count) _ (lifted e t) (slotAt (e .blob) s) table (s .store) refl p (slot-steady (e .blob) (s .store))
+  read-does offset count table p = part-does (read offset count) _ (lifted e t) (slotAt (e .blob) s) table (s .store) refl p (slotOf-steady (e .blob) (s .store))
 
   pub read-is : (offset count n : ℕ) (writing : Bool) (table answer after shown : List ℕ) → writing ≡ eqb (writingIn (e .word)) 1
       → shown ≡ part offset (readCount count offset (seenLength writing (slotAt (e .blob) s))) (seenBytes writing (slotAt (e .blob) s)) → length shown ≡ n → fieldsAt + n ≤ length answer
@@ -225,7 +200,7 @@ module _ (s : State) (r : ℕ) (e : Entry) (words : block rowWords r .get (s .se
   stat-does : (table : List ℕ) → table ≡ block rowWords r .put (wordsOf (lifted e t)) (s .sessions .table)
       → (reply (statStore (rowRead r e s) (slotAt (e .blob) s)), with s (record { table = table; rows = s .sessions .rows }) (s .store) (s .flashGroup)) ≡ onRow r t stat s
   unfolding onStore
-  stat-does table p = part-does stat _ (lifted e t) (slotAt (e .blob) s) table (s .store) refl p (slot-steady (e .blob) (s .store))
+  stat-does table p = part-does stat _ (lifted e t) (slotAt (e .blob) s) table (s .store) refl p (slotOf-steady (e .blob) (s .store))
 
   pub stat-is : (state size : ℕ) (writing : Bool) (table : List ℕ) → writing ≡ eqb (writingIn (e .word)) 1 → state ≡ stateBits (e .word) → size ≡ seenLength writing (slotAt (e .blob) s)
       → table ≡ block rowWords r .put (wordsOf (lifted e t)) (s .sessions .table)

@@ -1,5 +1,5 @@
 -- What a Read shows: the same bytes, in the session's region and in the whole lent slice. Assumes nothing.
-use mathlib.Core.Path.{_≡_, refl, sym, _∙_, ap}
+use mathlib.Core.Path.{_≡_, sym, _∙_, ap}
 use mathlib.Core.Bool.{Bool, true, false, cond}
 use mathlib.Core.List.{List}
 use Prim.Native.Nat.{ℕ, _+_, _*_, _-_, _≤_, _<_, min}
@@ -9,7 +9,7 @@ use lib.ListN.{length}
 use Rattle.laws.specs.Ranges.{part, block, part-part, length-part}
 use Rattle.protocol.specs.Numbers.{slotCount, slotSize, readMost}
 use Rattle.rules.specs.Store.{readCount}
-use Rattle.buffers.specs.Sizes.{slot-size}
+use Rattle.protocol.specs.Sizes.{slot-size}
 
 -- of a session of slot k that writes or not, and sees len bytes: n bytes from `from` on
 pub record Shown (k len from n : ℕ) (writing : Bool) (committed staged : List ℕ) : Type 0 where

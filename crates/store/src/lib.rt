@@ -13,14 +13,15 @@ ghost use Rattle.rules.specs.Store.{read, write, commit, stat, close, readCount
 ghost use Rattle.rules.specs.Session.{onRow};
 ghost use Rattle.commands.specs.Left.{left, leftBy, fieldsLaid, fieldsLength};
 ghost use Rattle.rowcommands.specs.Lent.{NamesLent, RegionsLent, AnswerLent, LengthsFit, RowIs};
-use buffers::clear_name;
 use buffers::clear_region;
-use buffers::copy_at;
 use buffers::copy_region;
+use buffers::free_slot;
 use commands::Act;
 use commands::Said;
+use copying::copy_at;
 use protocol::Code;
 use protocol::FIELDS_AT;
+use protocol::READ_MOST;
 use rowcommands::commit_fits;
 use rowcommands::state_bits;
 use rowcommands::write_region;
@@ -33,9 +34,6 @@ use state::mask::set_bit;
 use state::row::Entry;
 use state::row::clear_row;
 use state::row::write_row;
-
-// A Read shows at most this many bytes.
-const READ_MOST: u32 = 58;
 
 // The row after an accepted Write of n bytes: a nonempty one clears clean.
 fn after_write(e: Entry, n: usize) -> Entry
@@ -138,18 +136,15 @@ pub fn close(
         };
     }
     let k = e.blob as usize;
-    clear_region(staged, k);
-    next.staged_len[k] = 0;
-    if has(control.committed, k) {
+    if !has(control.committed, k) {
+        let freed = free_slot(k, next, names, committed, staged);
         return Act {
             said: Said::Done,
-            control: next,
+            control: freed,
         };
     }
-    clear_name(names, k);
-    clear_region(committed, k);
-    next.committed_len[k] = 0;
-    next.slots = clear_bit(control.slots, k);
+    clear_region(staged, k);
+    next.staged_len[k] = 0;
     Act {
         said: Said::Done,
         control: next,

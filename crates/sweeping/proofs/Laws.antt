@@ -2,7 +2,7 @@
 use mathlib.Core.Path.{_≡_, refl, sym, ap, ap₂, _∙_}
 use mathlib.Core.Bool.{Bool, true, false, not, cond, _&&_}
 use mathlib.Core.List.{List}
-use Prim.Native.Nat.{ℕ, suc, _+_}
+use Prim.Native.Nat.{ℕ, _+_}
 use native.Mathlib.Numerals.{add-one}
 use lib.Dec.{eqb, ltb}
 use lib.ListN.{getD}
@@ -10,7 +10,7 @@ use Rattle.laws.specs.Ranges.{block}
 use Rattle.laws.specs.Bits.{bit}
 use Rattle.protocol.specs.Numbers.{rowCount, rowWords, sessionLife, running}
 use Rattle.state.specs.State.{State, inRow}
-use Rattle.state.specs.Words.{statusIn, inUse}
+use Rattle.state.specs.Words.{statusIn}
 use Rattle.state.specs.Entry.{wordsOf}
 use Rattle.state.specs.declared.row.Entry.{Entry}
 use Rattle.rules.specs.Store.{close}

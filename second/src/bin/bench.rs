@@ -228,11 +228,7 @@ fn measures(state: &OwnedMemory) -> Vec<Measure> {
 }
 
 fn open_name(state: &OwnedMemory, session: u16) -> Vec<u8> {
-    let rows = state.used_rows();
-    let row = rows
-        .into_iter()
-        .map(|row| state.row(row))
-        .find(|row| row.identifier == u32::from(session));
+    let row = state.session(u32::from(session));
     let slot = row.and_then(|row| row.slot()).expect("the session's slot");
     second::names::characters(state.name(slot)).to_vec()
 }

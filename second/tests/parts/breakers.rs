@@ -1,7 +1,7 @@
 //! Named breakers: each breaks one clause of soundness alone. A breaker gives `false` if the state offers no place for
 //! it; another state is tried then.
 
-use second::harness::{OwnedMemory, Random};
+use second::harness::{new_row, region, OwnedMemory, Random};
 use second::names::{pad, Flash};
 use second::state::{
     Row, COMMITTED_LENGTHS, FLAGS_FLASH, FLAGS_READ, FLAGS_READ_WRITE, HASH_LENGTH, IMAGE_LENGTH, NEXT_IDENTIFIER,
@@ -23,14 +23,14 @@ pub const BREAKERS: &[(&str, Breaker)] = &[
     ("phase unknown", phase_unknown),
     // "Lengths fit."
     ("committed length too large", |r, m| {
-        match a_slot(r, m, |m, slot| m.slot_committed(slot)) {
-            Some(slot) => too_long(r, &mut m.control[COMMITTED_LENGTHS + slot], 4096),
-            None => false,
-        }
+        at_slot(r, m, OwnedMemory::slot_committed, |r, m, slot| {
+            too_long(r, &mut m.control[COMMITTED_LENGTHS + slot], 4096)
+        })
     }),
-    ("staged length too large", |r, m| match a_slot(r, m, has_writing_row) {
-        Some(slot) => too_long(r, &mut m.control[STAGED_LENGTHS + slot], 4096),
-        None => false,
+    ("staged length too large", |r, m| {
+        at_slot(r, m, has_writing_row, |r, m, slot| {
+            too_long(r, &mut m.control[STAGED_LENGTHS + slot], 4096)
+        })
     }),
     ("image length too large", |r, m| {
         m.control[PHASE] != 0 && too_long(r, &mut m.control[IMAGE_LENGTH], 16_384)
@@ -43,37 +43,33 @@ pub const BREAKERS: &[(&str, Breaker)] = &[
     ("unused row with blob", |r, m| unused_row(r, m, 1)),
     ("unused row with bits", |r, m| unused_row(r, m, 2)),
     ("unused row with stamp", |r, m| unused_row(r, m, 3)),
-    ("unused slot with name", |r, m| match a_free_slot(r, m) {
-        Some(slot) => nonzero(r, m.name_mut(slot)),
-        None => false,
+    ("unused slot with name", |r, m| {
+        at_free_slot(r, m, |r, m, slot| nonzero(r, m.name_mut(slot)))
     }),
-    ("unused slot with whole name", |r, m| match a_free_slot(r, m) {
-        Some(slot) => set_name(m, slot, b"/scan/free"),
-        None => false,
+    ("unused slot with whole name", |r, m| {
+        at_free_slot(r, m, |_, m, slot| set_name(m, slot, b"/scan/free"))
     }),
-    ("unused slot committed", |r, m| match a_free_slot(r, m) {
-        Some(slot) => set(&mut m.control[SLOTS_COMMITTED], |mask| mask | 1 << slot),
-        None => false,
+    ("unused slot committed", |r, m| {
+        at_free_slot(r, m, |_, m, slot| {
+            set(&mut m.control[SLOTS_COMMITTED], |mask| mask | 1 << slot)
+        })
     }),
-    ("unused slot with committed length", |r, m| match a_free_slot(r, m) {
-        Some(slot) => some_length(r, &mut m.control[COMMITTED_LENGTHS + slot]),
-        None => false,
+    ("unused slot with committed length", |r, m| {
+        at_free_slot(r, m, some_committed_length)
     }),
-    ("unused slot with staged length", |r, m| match a_free_slot(r, m) {
-        Some(slot) => some_length(r, &mut m.control[STAGED_LENGTHS + slot]),
-        None => false,
+    ("unused slot with staged length", |r, m| {
+        at_free_slot(r, m, some_staged_length)
     }),
-    ("unused slot with committed byte", |r, m| match a_free_slot(r, m) {
-        Some(slot) => nonzero(r, &mut m.committed[region(slot)]),
-        None => false,
+    ("unused slot with committed byte", |r, m| {
+        at_free_slot(r, m, |r, m, slot| nonzero(r, &mut m.committed[region(slot)]))
     }),
-    ("unused slot with staged byte", |r, m| match a_free_slot(r, m) {
-        Some(slot) => nonzero(r, &mut m.staged[region(slot)]),
-        None => false,
+    ("unused slot with staged byte", |r, m| {
+        at_free_slot(r, m, |r, m, slot| nonzero(r, &mut m.staged[region(slot)]))
     }),
-    ("unused slot with last staged byte", |r, m| match a_free_slot(r, m) {
-        Some(slot) => set(&mut m.staged[region(slot)][SLOT_CAPACITY - 1], |_| 1),
-        None => false,
+    ("unused slot with last staged byte", |r, m| {
+        at_free_slot(r, m, |_, m, slot| {
+            set(&mut m.staged[region(slot)][SLOT_CAPACITY - 1], |_| 1)
+        })
     }),
     // "Used slots have different store names padded by zeros."
     ("name all zero", |r, m| rename(r, m, b"")),
@@ -101,20 +97,17 @@ pub const BREAKERS: &[(&str, Breaker)] = &[
     }),
     ("two rows with the same identifier", same_identifiers),
     ("blob too large", |r, m| {
-        change_row(
-            r,
-            m,
-            |_, row| row.flash().is_some(),
-            |r, row| {
-                row.blob = r
-                    .clone()
-                    .pick(&[21, 22, 31, 32, 255, 256 + row.blob, 65_536 + row.blob, u32::MAX]);
-            },
-        )
+        change_row(r, m, is_flash, |r, row| {
+            row.blob = r
+                .clone()
+                .pick(&[21, 22, 31, 32, 255, 256 + row.blob, 65_536 + row.blob, u32::MAX]);
+        })
     }),
     ("two rows with the same slot", same_slots),
-    ("row of an unused slot", row_of_unused_slot),
-    ("writing row of an unused slot", writing_row_of_unused_slot),
+    ("row of an unused slot", |r, m| row_of_unused_slot(r, m, FLAGS_READ)),
+    ("writing row of an unused slot", |r, m| {
+        row_of_unused_slot(r, m, FLAGS_READ_WRITE)
+    }),
     // "At most one row is flash", also of the same kind (reading 17: that breaks two clauses).
     ("image and hash rows", |r, m| {
         two_flash(r, m, 1, (Flash::Image, 0), (Flash::Hash, 0))
@@ -129,30 +122,14 @@ pub const BREAKERS: &[(&str, Breaker)] = &[
         two_flash(r, m, 0, (Flash::Cleanup, 0), (Flash::Cleanup, 0))
     }),
     // "Flags are allowed."
-    ("store row with flags 0", |r, m| {
-        change_row(r, m, is_store, |_, row| row.flags = 0)
-    }),
-    ("read-only row with flags 2", |r, m| {
-        change_row(r, m, is_read_only, |_, row| row.flags = 2)
-    }),
-    ("writing row with flags 2", |r, m| {
-        change_row(r, m, is_writing, |_, row| row.flags = 2)
-    }),
-    ("store row with more flags", |r, m| {
-        change_row(r, m, is_store, |r, row| row.flags |= 4 << r.below(14))
-    }),
-    ("flash row with flags 0", |r, m| {
-        change_row(r, m, is_flash, |_, row| row.flags = 0)
-    }),
-    ("flash row with flags 1", |r, m| {
-        change_row(r, m, is_flash, |_, row| row.flags = 1)
-    }),
-    ("flash row with flags 3", |r, m| {
-        change_row(r, m, is_flash, |_, row| row.flags = 3)
-    }),
-    ("flash row with more flags", |r, m| {
-        change_row(r, m, is_flash, |r, row| row.flags |= 4 << r.below(14))
-    }),
+    ("store row with flags 0", |r, m| set_flags(r, m, is_store, 0)),
+    ("read-only row with flags 2", |r, m| set_flags(r, m, is_read_only, 2)),
+    ("writing row with flags 2", |r, m| set_flags(r, m, is_writing, 2)),
+    ("store row with more flags", |r, m| more_flags(r, m, is_store)),
+    ("flash row with flags 0", |r, m| set_flags(r, m, is_flash, 0)),
+    ("flash row with flags 1", |r, m| set_flags(r, m, is_flash, 1)),
+    ("flash row with flags 3", |r, m| set_flags(r, m, is_flash, 3)),
+    ("flash row with more flags", |r, m| more_flags(r, m, is_flash)),
     // "Status is nonzero only on verify, update (1-3) and cleanup (2)."
     ("status on a store row", |r, m| {
         change_row(r, m, is_store, |r, row| row.status = r.between(1, 3) as u32)
@@ -169,12 +146,9 @@ pub const BREAKERS: &[(&str, Breaker)] = &[
     }),
     // "A used slot not committed has committed length 0 and a writing row; staged length is 0 without one."
     ("committed length of a new slot", |r, m| {
-        match a_slot(r, m, |m, slot| !m.slot_committed(slot)) {
-            Some(slot) => some_length(r, &mut m.control[COMMITTED_LENGTHS + slot]),
-            None => false,
-        }
+        at_slot(r, m, is_new_slot, some_committed_length)
     }),
-    ("new slot without row", new_slot_without_row),
+    ("new slot without row", |r, m| at_row_of_new_slot(r, m, free_row)),
     ("new slot with a read-only row, clean", |r, m| {
         new_slot_read_only(r, m, true)
     }),
@@ -182,36 +156,21 @@ pub const BREAKERS: &[(&str, Breaker)] = &[
         new_slot_read_only(r, m, false)
     }),
     ("slot without row, not committed", |r, m| {
-        match a_slot(r, m, |m, slot| m.row_of_slot(slot).is_none()) {
-            Some(slot) => {
-                m.control[COMMITTED_LENGTHS + slot] = 0;
-                set(&mut m.control[SLOTS_COMMITTED], |mask| mask & !(1 << slot))
-            }
-            None => false,
-        }
+        at_slot(r, m, has_no_row, |_, m, slot| {
+            m.control[COMMITTED_LENGTHS + slot] = 0;
+            set(&mut m.control[SLOTS_COMMITTED], |mask| mask & !(1 << slot))
+        })
     }),
     ("staged length without row", |r, m| {
-        match a_slot(r, m, |m, slot| m.row_of_slot(slot).is_none()) {
-            Some(slot) => some_length(r, &mut m.control[STAGED_LENGTHS + slot]),
-            None => false,
-        }
+        at_slot(r, m, has_no_row, some_staged_length)
     }),
     ("staged length with a read-only row", |r, m| {
-        match a_slot(r, m, has_read_only_row) {
-            Some(slot) => some_length(r, &mut m.control[STAGED_LENGTHS + slot]),
-            None => false,
-        }
+        at_slot(r, m, has_read_only_row, some_staged_length)
     }),
     // "Clean stands only on store rows of committed slots, and always on a read-only row."
-    ("clean flash row", |r, m| {
-        change_row(r, m, is_flash, |_, row| row.clean = true)
-    }),
-    ("clean row of a new slot", |r, m| {
-        change_row(r, m, is_new, |_, row| row.clean = true)
-    }),
-    ("read-only row not clean", |r, m| {
-        change_row(r, m, is_read_only, |_, row| row.clean = false)
-    }),
+    ("clean flash row", |r, m| set_clean(r, m, is_flash, true)),
+    ("clean row of a new slot", |r, m| set_clean(r, m, is_of_new_slot, true)),
+    ("read-only row not clean", |r, m| set_clean(r, m, is_read_only, false)),
     // "Image or hash row: Uploading. Verify row: not Idle, and Uploading if tried. Update row: Verified. Cleanup row at
     // 2: Idle."
     ("image row in Idle", |r, m| flash_row(r, m, 0, Flash::Image, 0)),
@@ -277,42 +236,75 @@ fn some_length(random: &mut Random, length: &mut u32) -> bool {
     set(length, |_| random.between(1, 4096) as u32)
 }
 
+fn some_committed_length(random: &mut Random, memory: &mut OwnedMemory, slot: usize) -> bool {
+    some_length(random, &mut memory.control[COMMITTED_LENGTHS + slot])
+}
+
+fn some_staged_length(random: &mut Random, memory: &mut OwnedMemory, slot: usize) -> bool {
+    some_length(random, &mut memory.control[STAGED_LENGTHS + slot])
+}
+
 fn nonzero(random: &mut Random, bytes: &mut [u8]) -> bool {
     let place = random.below(bytes.len() as u64) as usize;
     set(&mut bytes[place], |_| 1 << random.below(8))
 }
 
-fn region(slot: usize) -> std::ops::Range<usize> {
-    slot * SLOT_CAPACITY..(slot + 1) * SLOT_CAPACITY
-}
-
 // ---- Choosing slots and rows ----
 
-fn a_slot(random: &mut Random, memory: &OwnedMemory, wanted: fn(&OwnedMemory, usize) -> bool) -> Option<usize> {
-    let slots: Vec<usize> = memory
-        .used_slots()
-        .into_iter()
-        .filter(|slot| wanted(memory, *slot))
-        .collect();
-    (!slots.is_empty()).then(|| random.pick(&slots))
+/// Breaks the state at a used slot that is as wanted.
+fn at_slot(
+    random: &mut Random,
+    memory: &mut OwnedMemory,
+    wanted: fn(&OwnedMemory, usize) -> bool,
+    break_at: impl FnOnce(&mut Random, &mut OwnedMemory, usize) -> bool,
+) -> bool {
+    let mut slots = memory.used_slots();
+    slots.retain(|slot| wanted(memory, *slot));
+    let slot = random.pick_if_any(&slots);
+    slot.is_some_and(|slot| break_at(random, memory, slot))
 }
 
-fn a_free_slot(random: &mut Random, memory: &OwnedMemory) -> Option<usize> {
-    let slots = memory.free_slots();
-    (!slots.is_empty()).then(|| random.pick(&slots))
+fn at_free_slot(
+    random: &mut Random,
+    memory: &mut OwnedMemory,
+    break_at: impl FnOnce(&mut Random, &mut OwnedMemory, usize) -> bool,
+) -> bool {
+    let slot = random.pick_if_any(&memory.free_slots());
+    slot.is_some_and(|slot| break_at(random, memory, slot))
+}
+
+fn two_of(random: &mut Random, mut places: Vec<usize>) -> Option<(usize, usize)> {
+    random.shuffle(&mut places);
+    Some((*places.first()?, *places.get(1)?))
+}
+
+fn any_slot(_: &OwnedMemory, _: usize) -> bool {
+    true
+}
+
+fn is_new_slot(memory: &OwnedMemory, slot: usize) -> bool {
+    !memory.slot_committed(slot)
+}
+
+fn has_no_row(memory: &OwnedMemory, slot: usize) -> bool {
+    memory.row_of_slot(slot).is_none()
 }
 
 fn has_writing_row(memory: &OwnedMemory, slot: usize) -> bool {
-    memory
-        .row_of_slot(slot)
-        .is_some_and(|row| memory.row(row).flags == FLAGS_READ_WRITE)
+    has_row_with(memory, slot, FLAGS_READ_WRITE)
 }
 
 fn has_read_only_row(memory: &OwnedMemory, slot: usize) -> bool {
+    has_row_with(memory, slot, FLAGS_READ)
+}
+
+fn has_row_with(memory: &OwnedMemory, slot: usize, flags: u32) -> bool {
     memory
         .row_of_slot(slot)
-        .is_some_and(|row| memory.row(row).flags == FLAGS_READ)
+        .is_some_and(|row| memory.row(row).flags == flags)
 }
+
+type RowTest = fn(&OwnedMemory, &Row) -> bool;
 
 fn any_row(_: &OwnedMemory, _: &Row) -> bool {
     true
@@ -334,38 +326,44 @@ fn is_read_only(_: &OwnedMemory, row: &Row) -> bool {
     row.slot().is_some() && row.flags == FLAGS_READ
 }
 
-fn is_new(memory: &OwnedMemory, row: &Row) -> bool {
-    row.slot().is_some_and(|slot| !memory.slot_committed(slot))
+fn is_of_new_slot(memory: &OwnedMemory, row: &Row) -> bool {
+    row.slot().is_some_and(|slot| is_new_slot(memory, slot))
 }
 
 fn change_row(
     random: &mut Random,
     memory: &mut OwnedMemory,
-    wanted: fn(&OwnedMemory, &Row) -> bool,
+    wanted: RowTest,
     change: impl FnOnce(&mut Random, &mut Row),
 ) -> bool {
-    let rows: Vec<usize> = memory
-        .used_rows()
-        .into_iter()
-        .filter(|row| wanted(memory, &memory.row(*row)))
-        .collect();
-    if rows.is_empty() {
+    let mut rows = memory.used_rows();
+    rows.retain(|row| wanted(memory, &memory.row(*row)));
+    let Some(place) = random.pick_if_any(&rows) else {
         return false;
-    }
-    let place = random.pick(&rows);
+    };
     let mut row = memory.row(place);
     change(random, &mut row);
     memory.set_row(place, &row);
     true
 }
 
+fn set_flags(random: &mut Random, memory: &mut OwnedMemory, wanted: RowTest, flags: u32) -> bool {
+    change_row(random, memory, wanted, |_, row| row.flags = flags)
+}
+
+fn more_flags(random: &mut Random, memory: &mut OwnedMemory, wanted: RowTest) -> bool {
+    change_row(random, memory, wanted, |random, row| row.flags |= 4 << random.below(14))
+}
+
+fn set_clean(random: &mut Random, memory: &mut OwnedMemory, wanted: RowTest, clean: bool) -> bool {
+    change_row(random, memory, wanted, |_, row| row.clean = clean)
+}
+
 fn unused_row(random: &mut Random, memory: &mut OwnedMemory, word: usize) -> bool {
-    let rows = memory.free_rows();
-    if rows.is_empty() {
+    let Some(row) = random.pick_if_any(&memory.free_rows()) else {
         return false;
-    }
-    let place = random.pick(&rows) * 4 + word;
-    set(&mut memory.table[place], |_| 1 << random.below(32))
+    };
+    set(&mut memory.table[row * 4 + word], |_| 1 << random.below(32))
 }
 
 // ---- Names ----
@@ -376,123 +374,96 @@ fn set_name(memory: &mut OwnedMemory, slot: usize, name: &[u8]) -> bool {
 }
 
 fn rename(random: &mut Random, memory: &mut OwnedMemory, name: &[u8]) -> bool {
-    match a_slot(random, memory, |_, _| true) {
-        Some(slot) => set_name(memory, slot, name),
-        None => false,
-    }
+    at_slot(random, memory, any_slot, |_, memory, slot| set_name(memory, slot, name))
 }
 
 fn rubbish_behind_name(random: &mut Random, memory: &mut OwnedMemory) -> bool {
-    let Some(slot) = a_slot(random, memory, |m, slot| m.name(slot)[30] == 0) else {
-        return false;
-    };
-    let name = memory.name_mut(slot);
-    let nul = name.iter().position(|byte| *byte == 0).expect("a NUL");
-    let place = random.between(nul as u64 + 1, 31) as usize;
-    set(&mut name[place], |_| b'a')
+    let has_space = |memory: &OwnedMemory, slot| memory.name(slot)[30] == 0;
+    at_slot(random, memory, has_space, |random, memory, slot| {
+        let name = memory.name_mut(slot);
+        let nul = name.iter().position(|byte| *byte == 0).expect("a NUL");
+        let place = random.between(nul as u64 + 1, 31) as usize;
+        set(&mut name[place], |_| b'a')
+    })
 }
 
 fn same_names(random: &mut Random, memory: &mut OwnedMemory) -> bool {
-    let mut slots = memory.used_slots();
-    if slots.len() < 2 {
+    let Some((one, other)) = two_of(random, memory.used_slots()) else {
         return false;
-    }
-    random.shuffle(&mut slots);
-    let name = memory.name(slots[0]).to_vec();
-    memory.name_mut(slots[1]).copy_from_slice(&name);
+    };
+    let name = memory.name(one).to_vec();
+    memory.name_mut(other).copy_from_slice(&name);
     true
 }
 
 // ---- Rows ----
 
 fn same_identifiers(random: &mut Random, memory: &mut OwnedMemory) -> bool {
-    let mut rows = memory.used_rows();
-    if rows.len() < 2 {
+    let Some((one, other)) = two_of(random, memory.used_rows()) else {
         return false;
-    }
-    random.shuffle(&mut rows);
-    memory.table[rows[0] * 4] = memory.table[rows[1] * 4];
+    };
+    memory.table[one * 4] = memory.table[other * 4];
     true
 }
 
 /// Fills a free row with an identifier that no row has.
 fn add_row(random: &mut Random, memory: &mut OwnedMemory, row: Row) -> bool {
-    let free = memory.free_rows();
-    if free.is_empty() {
+    let Some(place) = random.pick_if_any(&memory.free_rows()) else {
         return false;
-    }
-    let identifiers: Vec<u32> = memory
-        .used_rows()
-        .into_iter()
-        .map(|row| memory.row(row).identifier)
-        .collect();
+    };
     let identifier = (0..65_536)
-        .find(|number| !identifiers.contains(number))
+        .find(|number| memory.session(*number).is_none())
         .expect("an unused identifier");
-    let place = random.pick(&free);
-    memory.set_row(place, &Row { identifier, ..row });
+    memory.set_row(
+        place,
+        &Row {
+            identifier,
+            stamp: 7,
+            ..row
+        },
+    );
     memory.control[ROWS_USED] |= 1 << place;
     true
 }
 
-fn new_row(blob: u32, flags: u32, status: u32, clean: bool) -> Row {
-    Row {
-        identifier: 0,
-        blob,
-        flags,
-        status,
-        clean,
-        remaining: 0,
-        stamp: 7,
-    }
-}
-
 fn same_slots(random: &mut Random, memory: &mut OwnedMemory) -> bool {
-    match a_slot(random, memory, has_read_only_row) {
-        Some(slot) => add_row(random, memory, new_row(slot as u32, FLAGS_READ, 0, true)),
-        None => false,
-    }
+    at_slot(random, memory, has_read_only_row, |random, memory, slot| {
+        add_row(random, memory, new_row(slot as u32, FLAGS_READ, 0, true))
+    })
 }
 
-fn row_of_unused_slot(random: &mut Random, memory: &mut OwnedMemory) -> bool {
-    match a_free_slot(random, memory) {
-        Some(slot) => add_row(random, memory, new_row(slot as u32, FLAGS_READ, 0, false)),
-        None => false,
-    }
+fn row_of_unused_slot(random: &mut Random, memory: &mut OwnedMemory, flags: u32) -> bool {
+    at_free_slot(random, memory, |random, memory, slot| {
+        add_row(random, memory, new_row(slot as u32, flags, 0, false))
+    })
 }
 
-fn writing_row_of_unused_slot(random: &mut Random, memory: &mut OwnedMemory) -> bool {
-    match a_free_slot(random, memory) {
-        Some(slot) => add_row(random, memory, new_row(slot as u32, FLAGS_READ_WRITE, 0, false)),
-        None => false,
-    }
-}
-
-fn new_slot_without_row(random: &mut Random, memory: &mut OwnedMemory) -> bool {
-    let Some(slot) = a_slot(random, memory, |m, slot| !m.slot_committed(slot)) else {
-        return false;
-    };
-    memory.control[STAGED_LENGTHS + slot] = 0;
-    let row = memory.row_of_slot(slot).expect("a new slot has a row");
-    free_row(memory, row)
+/// Breaks the state at the row of a new slot, after the staged length went to 0.
+fn at_row_of_new_slot(
+    random: &mut Random,
+    memory: &mut OwnedMemory,
+    break_at: impl FnOnce(&mut OwnedMemory, usize) -> bool,
+) -> bool {
+    at_slot(random, memory, is_new_slot, |_, memory, slot| {
+        memory.control[STAGED_LENGTHS + slot] = 0;
+        let row = memory.row_of_slot(slot).expect("a new slot has a row");
+        break_at(memory, row)
+    })
 }
 
 fn new_slot_read_only(random: &mut Random, memory: &mut OwnedMemory, clean: bool) -> bool {
-    let Some(slot) = a_slot(random, memory, |m, slot| !m.slot_committed(slot)) else {
-        return false;
-    };
-    memory.control[STAGED_LENGTHS + slot] = 0;
-    let place = memory.row_of_slot(slot).expect("a new slot has a row");
-    let row = memory.row(place);
-    memory.set_row(
-        place,
-        &Row {
-            flags: FLAGS_READ,
-            clean,
-            ..row
-        },
-    );
-    true
+    at_row_of_new_slot(random, memory, |memory, place| {
+        let row = memory.row(place);
+        memory.set_row(
+            place,
+            &Row {
+                flags: FLAGS_READ,
+                clean,
+                ..row
+            },
+        );
+        true
+    })
 }
 
 fn free_row(memory: &mut OwnedMemory, row: usize) -> bool {

@@ -259,13 +259,13 @@ impl Generator {
 
     fn open_bytes(&mut self, flags: u16, name: &[u8]) -> Vec<u8> {
         let field = self.name_field(name);
-        message_of(message::OPEN, &[&flags.to_le_bytes()[..], &field].concat())
+        harness::message(message::OPEN, &[&flags.to_le_bytes()[..], &field].concat())
     }
 
     fn named(&mut self, subcommand: u8, memory: &OwnedMemory) -> Vec<u8> {
         let name = self.name(memory);
         let field = self.name_field(&name);
-        message_of(subcommand, &field)
+        harness::message(subcommand, &field)
     }
 
     /// The name with its NUL; sometimes with a wrong form.
@@ -347,11 +347,7 @@ impl Generator {
     }
 
     fn session(&mut self, memory: &OwnedMemory) -> u16 {
-        let open: Vec<u16> = memory
-            .used_rows()
-            .into_iter()
-            .map(|row| memory.row(row).identifier as u16)
-            .collect();
+        let open: Vec<u16> = memory.sessions().map(|row| row.identifier as u16).collect();
         let next = memory.control[NEXT_IDENTIFIER] as u16;
         match self.random.below(100) {
             0 | 1 => self.random.word() as u16,
@@ -365,11 +361,7 @@ impl Generator {
 
     /// An offset, mostly near the length or the capacity of what the session sees.
     fn offset(&mut self, session: u16, memory: &OwnedMemory) -> u32 {
-        let rows = memory.used_rows();
-        let row = rows
-            .into_iter()
-            .map(|row| memory.row(row))
-            .find(|row| row.identifier == u32::from(session));
+        let row = memory.session(u32::from(session));
         let (length, capacity) = row.map_or((0, 0), |row| memory.view(&row));
         match self.random.below(20) {
             0 => self.random.word(),
@@ -515,8 +507,4 @@ impl Generator {
         };
         harness::open(2, flash.name())
     }
-}
-
-fn message_of(subcommand: u8, fields: &[u8]) -> Vec<u8> {
-    harness::message(subcommand, fields)
 }

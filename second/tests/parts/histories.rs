@@ -12,13 +12,10 @@ const HISTORY: u64 = 2_500;
 
 /// Histories of every profile, with clocks from the start, the middle and the end of their range.
 pub fn random(share: Share) -> Tally {
-    let mut pair = Pair::new(share.seed_for(0));
-    for history in 0..share.of(REQUESTS).div_ceil(HISTORY) {
-        let seed = share.seed_for(history + 1);
+    share.run(share.of(REQUESTS).div_ceil(HISTORY), |pair, history, seed| {
         let profile = PROFILES[(history % PROFILES.len() as u64) as usize];
-        one(&mut pair, seed, profile, history);
-    }
-    pair.tally
+        one(pair, seed, profile, history);
+    })
 }
 
 fn one(pair: &mut Pair, seed: u64, profile: Profile, history: u64) {

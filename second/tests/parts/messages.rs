@@ -1,6 +1,5 @@
 //! Messages: every length, every subcommand, each single-bit damage of a good message of each kind.
 
-use super::generator::{Generator, Profile};
 use super::pair::{Pair, Step};
 use super::tally::Tally;
 use super::Share;
@@ -10,21 +9,42 @@ use second::state::{LAST_SWEEP, NEXT_IDENTIFIER};
 
 const STATES: u64 = 6;
 
-/// A clock with which the state keeps its sessions.
-fn quiet_clock(state: &OwnedMemory) -> u32 {
-    state.control[LAST_SWEEP]
+/// A state that every message is sent to.
+struct Trial<'p> {
+    pair: &'p mut Pair,
+    random: Random,
+    state: OwnedMemory,
+    context: String,
 }
 
-/// Sends a message to the state itself; a change is taken back.
-fn send(pair: &mut Pair, state: &OwnedMemory, context: &str, bytes: Vec<u8>) -> u8 {
-    let code = pair.step(&Step::Message {
-        bytes,
-        clock: quiet_clock(state),
-    });
-    if pair.memory() != state {
-        pair.restart(state, context);
+impl Trial<'_> {
+    /// Sends a message to the state itself, with a clock that keeps its sessions; a change is taken back.
+    fn send(&mut self, bytes: Vec<u8>) -> u8 {
+        let code = self.pair.step(&Step::Message {
+            bytes,
+            clock: self.state.control[LAST_SWEEP],
+        });
+        if self.pair.memory() != &self.state {
+            self.pair.restart(&self.state, &self.context);
+        }
+        code
     }
-    code
+}
+
+/// Tries messages on a worker's share of this many lively states.
+fn on_lively_states(share: Share, states: u64, what: &str, send_all: fn(&mut Trial)) -> Tally {
+    share.run(share.of(states), |pair, _, seed| {
+        let mut random = Random::new(seed);
+        let state = lively_state(&mut random);
+        let context = format!("{what}, seed {seed:#X}");
+        pair.start(&state, &context);
+        send_all(&mut Trial {
+            pair,
+            random,
+            state,
+            context,
+        });
+    })
 }
 
 /// A state with at least one session on a store slot, and the names and identifiers to use.
@@ -40,23 +60,16 @@ fn lively_state(random: &mut Random) -> OwnedMemory {
 
 /// Every message length 0 to 255, with right CRC and with random bytes, for every subcommand up to 12.
 pub fn every_length(share: Share) -> Tally {
-    let mut pair = Pair::new(share.seed_for(0));
-    for place in 0..share.of(STATES) {
-        let seed = share.seed_for(place + 1);
-        let mut random = Random::new(seed);
-        let state = lively_state(&mut random);
-        let context = format!("every length, seed {seed:#X}");
-        pair.start(&state, &context);
+    on_lively_states(share, STATES, "every length", |trial| {
         for length in 0..=255 {
-            let rubbish = random.bytes(length);
-            send(&mut pair, &state, &context, rubbish);
+            let rubbish = trial.random.bytes(length);
+            trial.send(rubbish);
             for subcommand in 0..=12 {
-                let bytes = of_length(&mut random, &state, subcommand, length);
-                send(&mut pair, &state, &context, bytes);
+                let bytes = of_length(&mut trial.random, &trial.state, subcommand, length);
+                trial.send(bytes);
             }
         }
-    }
-    pair.tally
+    })
 }
 
 /// A message of this length whose frame is as good as the length lets it be.
@@ -99,27 +112,21 @@ fn session_bytes(random: &mut Random, state: &OwnedMemory) -> Vec<u8> {
 
 /// Every subcommand 0 to 255 with the bodies of every kind.
 pub fn every_subcommand(share: Share) -> Tally {
-    let mut pair = Pair::new(share.seed_for(0));
-    for place in 0..share.of(STATES) {
-        let seed = share.seed_for(place + 1);
-        let mut generator = Generator::new(seed, Profile::Mixed);
-        let state = lively_state(&mut generator.random);
-        let context = format!("every subcommand, seed {seed:#X}");
-        pair.start(&state, &context);
-        let good = good_messages(&mut generator.random, &state);
+    on_lively_states(share, STATES, "every subcommand", |trial| {
+        let good = good_messages(&mut trial.random, &trial.state);
         for subcommand in 0..=255 {
             for message in &good {
                 let mut bytes = message.clone();
                 bytes[3] = subcommand;
-                let code = send(&mut pair, &state, &context, bytes);
+                let code = trial.send(bytes);
                 assert!(
                     (subcommand <= 10) == (code != 0xC1),
-                    "{context}: subcommand {subcommand}"
+                    "{}: subcommand {subcommand}",
+                    trial.context
                 );
             }
         }
-    }
-    pair.tally
+    })
 }
 
 /// A message of each kind that is accepted, or for WriteMeta refused only as not supported.
@@ -152,63 +159,54 @@ fn good_messages(random: &mut Random, state: &OwnedMemory) -> Vec<Vec<u8>> {
 
 /// Each single-bit damage of a good message of each kind; behind the CRC it is always CC.
 pub fn every_bit(share: Share) -> Tally {
-    let mut pair = Pair::new(share.seed_for(0));
-    for place in 0..share.of(STATES) {
-        let seed = share.seed_for(place + 1);
-        let mut random = Random::new(seed);
-        let state = lively_state(&mut random);
-        let context = format!("every bit, seed {seed:#X}");
-        pair.start(&state, &context);
-        for message in good_messages(&mut random, &state) {
+    on_lively_states(share, STATES, "every bit", |trial| {
+        for message in good_messages(&mut trial.random, &trial.state) {
             for bit in 0..message.len() * 8 {
                 let mut bytes = message.clone();
                 bytes[bit / 8] ^= 1 << (bit % 8);
-                let code = send(&mut pair, &state, &context, bytes);
+                let code = trial.send(bytes);
                 let in_head = bit / 8 == 3;
-                assert!(in_head || code == 0xCC, "{context}: bit {bit} of {message:02X?}");
+                assert!(
+                    in_head || code == 0xCC,
+                    "{}: bit {bit} of {message:02X?}",
+                    trial.context
+                );
             }
         }
-    }
-    pair.tally
+    })
 }
 
 /// Every index, and every offset around every length; every identifier near the used ones.
 pub fn every_edge(share: Share) -> Tally {
-    let mut pair = Pair::new(share.seed_for(0));
-    for place in 0..share.of(10 * STATES) {
-        let seed = share.seed_for(place + 1);
-        let mut random = Random::new(seed);
-        let state = lively_state(&mut random);
-        let context = format!("every edge, seed {seed:#X}");
-        pair.start(&state, &context);
+    on_lively_states(share, 10 * STATES, "every edge", |trial| {
         for index in (0..26).chain([255, 256, 65_536, 1 << 31, u32::MAX]) {
-            send(&mut pair, &state, &context, harness::enumerate(index));
+            trial.send(harness::enumerate(index));
         }
-        let near_next = (0..40u32).map(|step| (state.control[NEXT_IDENTIFIER] + 65_516 + step) % 65_536);
-        for identifier in near_next {
-            send(&mut pair, &state, &context, harness::session_stat(identifier as u16));
+        let next = trial.state.control[NEXT_IDENTIFIER];
+        for step in 0..40 {
+            let identifier = (next + 65_516 + step) % 65_536;
+            trial.send(harness::session_stat(identifier as u16));
         }
-        for row in state.used_rows() {
-            edges_of_row(&mut pair, &mut random, &state, &context, row);
+        for row in trial.state.used_rows() {
+            edges_of_row(trial, row);
         }
-    }
-    pair.tally
+    })
 }
 
-fn edges_of_row(pair: &mut Pair, random: &mut Random, state: &OwnedMemory, context: &str, row: usize) {
-    let row = state.row(row);
+fn edges_of_row(trial: &mut Trial, row: usize) {
+    let row = trial.state.row(row);
     let session = row.identifier as u16;
-    let (length, capacity) = state.view(&row);
+    let (length, capacity) = trial.state.view(&row);
     for around in 0..3 {
         let reads = [length, length.saturating_sub(58)].map(|edge| (edge + around).saturating_sub(1));
         for offset in reads {
-            let requested = random.pick(&[57, 58, 59, u32::MAX]);
-            send(pair, state, context, harness::read(session, offset, requested));
+            let requested = trial.random.pick(&[57, 58, 59, u32::MAX]);
+            trial.send(harness::read(session, offset, requested));
         }
         let writes = [length, capacity.saturating_sub(52), capacity].map(|edge| (edge + around).saturating_sub(1));
         for offset in writes {
-            let data = random.bytes(random.clone().pick(&[0, 1, 51, 52]));
-            send(pair, state, context, harness::write(session, offset, &data));
+            let data = trial.random.bytes(trial.random.clone().pick(&[0, 1, 51, 52]));
+            trial.send(harness::write(session, offset, &data));
         }
     }
 }

@@ -10,6 +10,9 @@ pub mod states;
 pub mod tally;
 pub mod unsound;
 
+use pair::Pair;
+use tally::Tally;
+
 /// How many workers share each part.
 pub const WORKERS: u64 = 2;
 
@@ -33,5 +36,14 @@ impl Share {
             .wrapping_mul(0x0001_0000_01B3)
             .wrapping_add(self.worker << 56)
             .wrapping_add(place.wrapping_mul(0x9E37_79B1))
+    }
+
+    /// Runs this many places in one pair, each with its number and a seed of its own.
+    pub fn run(&self, places: u64, mut one: impl FnMut(&mut Pair, u64, u64)) -> Tally {
+        let mut pair = Pair::new(self.seed_for(0));
+        for place in 0..places {
+            one(&mut pair, place, self.seed_for(place + 1));
+        }
+        pair.tally
     }
 }

@@ -312,14 +312,9 @@ impl Pair {
             self.tally.situation("sweep near the end of the clock");
         }
         let mut closed_any = false;
-        for place in self.before.used_rows() {
-            let row = self.before.row(place);
+        for row in self.before.sessions() {
             let age = i64::from(clock) - i64::from(row.stamp);
-            let closed = !self
-                .memory
-                .used_rows()
-                .iter()
-                .any(|other| self.memory.row(*other).identifier == row.identifier);
+            let closed = self.memory.session(row.identifier).is_none();
             let kind = kind(&row, &self.before);
             closed_any |= closed;
             match (closed, age) {
@@ -341,10 +336,7 @@ impl Pair {
     /// The row in the state before that a session command names.
     fn named_row(&self, bytes: &[u8]) -> Option<Row> {
         let session = u32::from(u16::from_le_bytes([*bytes.get(6)?, *bytes.get(7)?]));
-        let rows = self.before.used_rows();
-        rows.into_iter()
-            .map(|row| self.before.row(row))
-            .find(|row| row.identifier == session)
+        self.before.session(session)
     }
 
     fn tally_write(&mut self, bytes: &[u8], code: u8) {

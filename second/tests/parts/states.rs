@@ -1,7 +1,6 @@
 //! Sound states made directly and not by a history.
 
 use super::generator::{Generator, Profile, KINDS};
-use super::pair::Pair;
 use super::tally::Tally;
 use super::Share;
 use second::harness::{near, random_sound_state};
@@ -11,9 +10,7 @@ const STATES: u64 = 20_000;
 
 /// Each state gets a request of every kind, each from the state itself, and then a few after one another.
 pub fn sound(share: Share) -> Tally {
-    let mut pair = Pair::new(share.seed_for(0));
-    for place in 0..share.of(STATES) {
-        let seed = share.seed_for(place + 1);
+    share.run(share.of(STATES), |pair, _, seed| {
         let mut generator = Generator::new(seed, Profile::Mixed);
         let mut state = random_sound_state(&mut generator.random);
         assert!(state.is_sound(), "a state made sound is sound, seed {seed:#X}");
@@ -32,6 +29,5 @@ pub fn sound(share: Share) -> Tally {
             let step = generator.next(pair.memory());
             pair.step(&step);
         }
-    }
-    pair.tally
+    })
 }

@@ -13,9 +13,7 @@ const LENGTH_STATES: u64 = 40;
 
 /// Each clause of soundness broken alone: FF, and nothing changes.
 pub fn broken(share: Share) -> Tally {
-    let mut pair = Pair::new(share.seed_for(0));
-    for place in 0..share.of(BROKEN) {
-        let seed = share.seed_for(place + 1);
+    share.run(share.of(BROKEN), |pair, place, seed| {
         let (name, breaker) = BREAKERS[(place % BREAKERS.len() as u64) as usize];
         let mut generator = Generator::new(seed, Profile::Mixed);
         let state = loop {
@@ -32,15 +30,12 @@ pub fn broken(share: Share) -> Tally {
             let code = pair.step(&step);
             assert_eq!(code, 0xFF, "broken: {name}, seed {seed:#X}");
         }
-    }
-    pair.tally
+    })
 }
 
 /// A few words or bytes of a sound state changed at random: some stay sound, both must agree.
 pub fn damaged(share: Share) -> Tally {
-    let mut pair = Pair::new(share.seed_for(0));
-    for place in 0..share.of(DAMAGED) {
-        let seed = share.seed_for(place + 1);
+    share.run(share.of(DAMAGED), |pair, _, seed| {
         let mut generator = Generator::new(seed, Profile::Mixed);
         let mut state = random_sound_state(&mut generator.random);
         for _ in 0..generator.random.between(1, 3) {
@@ -53,8 +48,7 @@ pub fn damaged(share: Share) -> Tally {
             let step = generator.of_kind(kind, pair.memory());
             pair.step(&step);
         }
-    }
-    pair.tally
+    })
 }
 
 fn damage(random: &mut Random, state: &mut OwnedMemory) {
@@ -90,9 +84,7 @@ fn damage_byte(random: &mut Random, bytes: &mut [u8]) {
 
 /// Each lent length one short, one long, zero and another: FF, and nothing changes.
 pub fn lengths(share: Share) -> Tally {
-    let mut pair = Pair::new(share.seed_for(0));
-    for place in 0..share.of(LENGTH_STATES) {
-        let seed = share.seed_for(place + 1);
+    share.run(share.of(LENGTH_STATES), |pair, place, seed| {
         let mut generator = Generator::new(seed, Profile::Mixed);
         let state = if place == 0 {
             OwnedMemory::fresh()
@@ -101,11 +93,10 @@ pub fn lengths(share: Share) -> Tally {
         };
         for slice in 0..8 {
             for how in 0..4 {
-                one_length(&mut pair, &mut generator, &state, slice, how, seed);
+                one_length(pair, &mut generator, &state, slice, how, seed);
             }
         }
-    }
-    pair.tally
+    })
 }
 
 fn one_length(pair: &mut Pair, generator: &mut Generator, state: &OwnedMemory, slice: u64, how: u64, seed: u64) {

@@ -1,6 +1,6 @@
 -- `blobs::job_outcome` meets its contract: refused where the state is not sound, or taken by the flash session. Assumes nothing.
 use borrow.Author.Needs.{needs}
-use mathlib.Core.Path.{_≡_, sym, _∙_}
+use mathlib.Core.Path.{sym, _∙_}
 use mathlib.Core.List.{[]}
 use mathlib.Core.Bool.{true}
 use borrow.Author.Tests.{not-true, not-false}

@@ -1,7 +1,6 @@
 -- `blobs::respond` meets its contract: refused before anything is done, or served. Assumes nothing.
 use borrow.Author.Needs.{needs}
-use mathlib.Core.Path.{_≡_, sym, _∙_}
-use native.Mathlib.Omega.{arith}
+use mathlib.Core.Path.{sym, _∙_}
 use borrow.Author.Tests.{not-true, not-false}
 use Rattle.state.specs.State.{stateOf}
 use Rattle.blobs.proofs.Served.{other-buffer, not-sound, answers}

@@ -1,12 +1,10 @@
 -- `clear_name`: from `clear_at`.
-use mathlib.Core.Path.{_∙_, ap}
+use mathlib.Core.Path.{_∙_}
 use native.Mathlib.Omega.{arith}
-use Prim.Native.Nat.{_+_, _*_, _-_}
-use lib.ListN.{replicate}
-use lib.Seq.{sets}
+use Prim.Native.Nat.{_-_}
 use Rattle.protocol.specs.Numbers.{nameSize}
 use Rattle.buffers.specs.Laws.{block-cleared}
-use Rattle.buffers.specs.Sizes.{name-size}
+use Rattle.protocol.specs.Sizes.{name-size}
 use borrow.Author.Needs.{needs}
 use Rattle.buffers.proofs.clear_name.Statement.{statement}
 use Rattle.buffers.proofs.clear_name.Tie as tie

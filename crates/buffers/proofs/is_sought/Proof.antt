@@ -1,6 +1,4 @@
 -- `is_sought`: from `has`, `read_row` and `fits`.
-use mathlib.Core.Path.{ap, _∙_, sym}
-use mathlib.Core.Bool.{_&&_}
 use borrow.Author.Needs.{needs}
 use Rattle.buffers.proofs.is_sought.Statement.{statement}
 use Rattle.buffers.proofs.is_sought.Tie as tie

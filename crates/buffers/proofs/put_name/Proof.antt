@@ -7,7 +7,7 @@ use lib.ListN.{replicate}
 use lib.Seq.{sets}
 use Rattle.protocol.specs.Numbers.{nameSize}
 use Rattle.buffers.specs.Laws.{block-named}
-use Rattle.buffers.specs.Sizes.{name-size}
+use Rattle.protocol.specs.Sizes.{name-size}
 use borrow.Author.Needs.{needs}
 use Rattle.buffers.proofs.put_name.Statement.{statement}
 use Rattle.buffers.proofs.put_name.Tie as tie

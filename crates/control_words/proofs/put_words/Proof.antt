@@ -5,7 +5,7 @@ use native.Mathlib.Omega.{arith}
 use lib.ListN.{length, getD, length-set}
 use lib.Seq.{paste, paste-zero}
 use borrow.Author.Needs.{needs}
-use Rattle.buffers.specs.Laws.{stored-more, stored-all}
+use Rattle.copying.specs.Laws.{stored-more, stored-all}
 use Rattle.control_words.proofs.put_words.Statement.{statement}
 use Rattle.control_words.proofs.put_words.Tie as tie
 

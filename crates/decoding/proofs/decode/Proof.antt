@@ -1,5 +1,5 @@
 -- `decoding::decode` meets its contract: each way out is one law of the order of the checks. Assumes nothing.
-use mathlib.Core.Path.{_≡_, _∙_}
+use mathlib.Core.Path.{_≡_}
 use mathlib.Core.Bool.{true}
 use Prim.Native.Nat.{_-_}
 use lib.ListN.{length, getD}

@@ -1,5 +1,5 @@
 -- `decoding::request_of` meets its contract: each arm knows the subcommand, and what its reader found. Assumes nothing.
-use mathlib.Core.Path.{ap, _∙_}
+use mathlib.Core.Path.{ap}
 use native.Mathlib.Omega.{arith}
 use denote.Ref.{now}
 use Rattle.reader.specs.Wire.{writeOf, commitOf}

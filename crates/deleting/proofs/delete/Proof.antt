@@ -1,10 +1,10 @@
 -- `delete`: by what the name names.
-use mathlib.Core.Path.{_≡_, sym, _∙_, ap, subst}
+use mathlib.Core.Path.{sym, _∙_, ap, subst}
 use lib.ListN.{length}
+use Rattle.protocol.specs.Inside.{BlobInside}
 use Rattle.protocol.specs.declared.Blob.{Blob}
 use Rattle.state.specs.State.{stateOf}
 use Rattle.rules.specs.Open.{deleteBlob}
-use Rattle.places.specs.Named.{InMessage}
 use borrow.Author.Needs.{needs}
 use Rattle.deleting.proofs.delete.Statement.{statement}
 use Rattle.deleting.proofs.delete.Tie as tie
@@ -13,7 +13,7 @@ enum-known-blob : tie.Need-enum-known-blob
 enum-known-blob c = search needs
 
 delete-store-requires : tie.Need-delete-store-requires
-delete-store-requires c κs = (subst (λ (b : Blob). InMessage b (length (c .before .before .before .before .before .before .before .before .before .before .before .args .message .now))) (c .before .before .before .before .blob .given .1) (c .before .before .before .before .before .before .before .before .before .before .before .pre .0) .0, search needs)
+delete-store-requires c κs = (subst (BlobInside (c .before .before .before .before .before .before .before .before .before .before .before .args .message .now)) (c .before .before .before .before .blob .given .1) (c .before .before .before .before .before .before .before .before .before .before .before .pre .0) .ends, search needs)
 
 enum-told : tie.Need-enum-told
 enum-told c = search needs

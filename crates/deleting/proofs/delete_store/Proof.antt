@@ -1,5 +1,5 @@
 -- `delete_store`: the name is not held, its blob is open, or its slot is freed.
-use mathlib.Core.Path.{_≡_, sym, _∙_, ap}
+use mathlib.Core.Path.{sym, _∙_, ap}
 use native.Mathlib.Omega.{arith}
 use Prim.Native.Nat.{_<_}
 use Rattle.laws.specs.Ranges.{part}

@@ -2,7 +2,7 @@
 use mathlib.Core.Path.{_∙_}
 use native.Mathlib.Omega.{arith}
 use Rattle.protocol.specs.Numbers.{imageSize, hashSize}
-use Rattle.buffers.specs.Sizes.{image-size, hash-size}
+use Rattle.protocol.specs.Sizes.{image-size, hash-size}
 use Rattle.flash.proofs.Laws.{cleared}
 use borrow.Author.Needs.{needs}
 use Rattle.flash.proofs.clear_flash.Statement.{statement}

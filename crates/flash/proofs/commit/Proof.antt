@@ -1,19 +1,17 @@
 -- `commit`: refused for its length, to image and hash; verify, update, cleanup.
-use mathlib.Core.Path.{_≡_, sym, _∙_, ap, ap₂, refl}
+use mathlib.Core.Path.{sym, _∙_, ap}
 use mathlib.Core.Bool.{cond}
 use mathlib.Core.List.{List}
 use Prim.Native.Nat.{ℕ}
-use lib.Dec.{eqb}
 use borrow.Author.Tests.{not-true, not-false}
 use Rattle.laws.specs.Ranges.{block}
-use Rattle.protocol.specs.Numbers.{rowWords, imageSize, hashSize}
-use Rattle.protocol.specs.Names.{kindOf}
+use Rattle.protocol.specs.Numbers.{rowWords}
 use Rattle.protocol.specs.Frame.{done}
 use Rattle.state.specs.declared.Control.{Control}
 use Rattle.state.specs.declared.Phase.{Phase}
-use Rattle.state.specs.declared.Phase.the-variants.{Idle, Uploading, Verified}
+use Rattle.state.specs.declared.Phase.the-variants.{Idle, Uploading}
 use Rattle.state.specs.declared.row.Entry.{Entry}
-use Rattle.state.specs.Entry.{wordsOf, lifted, statusSet}
+use Rattle.state.specs.Entry.{wordsOf, lifted}
 use Rattle.state.specs.State.{State, stateOf}
 use Rattle.flash.proofs.Laws.{holdsBytes, commit-cc, commit-d5, verify-is, update-is, cleanup-is}
 use mathlib.Core.Bool.{Bool}

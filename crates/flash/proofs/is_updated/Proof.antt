@@ -1,5 +1,5 @@
 -- `is_updated`: one kind after another.
-use mathlib.Core.Path.{sym, _∙_, ap}
+use mathlib.Core.Path.{sym, ap}
 use Rattle.protocol.specs.declared.FlashKind.{FlashKind}
 use Rattle.flash.specs.Jobs.{updatedBy}
 use borrow.Author.Needs.{needs}

@@ -1,19 +1,11 @@
 -- `stat`: the state bits and the length of what the name holds.
-use mathlib.Core.Path.{_≡_, sym, _∙_, ap, ap₂, refl}
-use mathlib.Core.Bool.{cond}
+use mathlib.Core.Path.{_∙_, ap}
 use mathlib.Core.List.{List}
 use Prim.Native.Nat.{ℕ}
-use lib.Dec.{eqb}
-use borrow.Author.Tests.{not-true, not-false}
 use Rattle.laws.specs.Ranges.{block}
-use Rattle.protocol.specs.Numbers.{rowWords, imageSize, hashSize}
-use Rattle.protocol.specs.Names.{kindOf}
-use Rattle.protocol.specs.Frame.{done}
-use Rattle.state.specs.declared.Control.{Control}
-use Rattle.state.specs.declared.Phase.{Phase}
-use Rattle.state.specs.declared.Phase.the-variants.{Idle, Uploading, Verified}
+use Rattle.protocol.specs.Numbers.{rowWords}
 use Rattle.state.specs.declared.row.Entry.{Entry}
-use Rattle.state.specs.Entry.{wordsOf, lifted, statusSet}
+use Rattle.state.specs.Entry.{wordsOf, lifted}
 use Rattle.state.specs.State.{State, stateOf}
 use Rattle.flash.proofs.Laws.{stat-is}
 use Rattle.protocol.specs.declared.FlashKind.{FlashKind}

@@ -1,24 +1,14 @@
 -- `write`: to the image, to the hash, refused to the others.
-use mathlib.Core.Path.{_≡_, sym, _∙_, ap, ap₂, refl}
-use mathlib.Core.Bool.{cond}
+use mathlib.Core.Path.{sym, _∙_, ap, refl}
 use mathlib.Core.List.{List}
 use Prim.Native.Nat.{ℕ}
-use lib.Dec.{eqb}
-use borrow.Author.Tests.{not-true, not-false}
-use Rattle.laws.specs.Ranges.{block}
-use Rattle.protocol.specs.Numbers.{rowWords, imageSize, hashSize}
+use Rattle.protocol.specs.Numbers.{imageSize, hashSize}
 use Rattle.protocol.specs.Names.{kindOf}
-use Rattle.protocol.specs.Frame.{done}
-use Rattle.state.specs.declared.Control.{Control}
-use Rattle.state.specs.declared.Phase.{Phase}
-use Rattle.state.specs.declared.Phase.the-variants.{Idle, Uploading, Verified}
-use Rattle.state.specs.declared.row.Entry.{Entry}
-use Rattle.state.specs.Entry.{wordsOf, lifted, statusSet}
 use Rattle.state.specs.State.{State, stateOf}
 use Rattle.flash.proofs.Laws.{holdsBytes, write-image, write-hash, write-d5, write-is}
 use native.Mathlib.Omega.{arith}
 use Rattle.rules.specs.Flash.{withImage, withHash}
-use Rattle.buffers.specs.Sizes.{image-size, hash-size}
+use Rattle.protocol.specs.Sizes.{image-size, hash-size}
 use Rattle.rowcommands.specs.OnRow.{rowRead}
 use borrow.Author.Needs.{needs}
 use Rattle.flash.proofs.write.Statement.{statement}

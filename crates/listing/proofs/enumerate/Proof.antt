@@ -1,9 +1,9 @@
 -- `enumerate`: each kind of listed name is laid by its function.
-use mathlib.Core.Path.{_≡_, refl, sym, _∙_, ap, subst}
+use mathlib.Core.Path.{refl, sym, _∙_, ap, subst}
 use native.Mathlib.Omega.{arith}
 use Rattle.protocol.specs.Names.{base}
 use Rattle.protocol.specs.Frame.{Reply}
-use Rattle.buffers.specs.Sizes.{name-size}
+use Rattle.protocol.specs.Sizes.{name-size}
 use Rattle.listing.specs.Listed.{InStore, listedReply, Answers}
 use Rattle.listing.specs.declared.Listed.{Listed}
 use borrow.Author.Needs.{needs}

@@ -1,11 +1,10 @@
 -- `flash_at`: a number before the last one, the last one, or past it.
-use mathlib.Core.Path.{_≡_, sym, _∙_, ap}
+use mathlib.Core.Path.{_≡_, ap}
 use native.Mathlib.Omega.{arith}
-use mathlib.Core.Bool.{true, false, cond}
-use Prim.Native.Nat.{ℕ, _+_, _-_, _≤_, _<_}
+use mathlib.Core.Bool.{true, false}
+use Prim.Native.Nat.{_-_}
 use lib.Dec.{eqb, ltb}
 use borrow.Author.Tests.{eq-eqb, ne-eqb, lt-ltb, le-ltb}
-use Rattle.protocol.specs.Names.{kindOf}
 use Rattle.rules.specs.Counting.{flashCount}
 use Rattle.listing.specs.declared.Listed.the-variants.{Flash}
 use Rattle.listing.specs.Laws.{one-listed, few-listed}

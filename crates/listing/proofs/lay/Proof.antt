@@ -1,6 +1,6 @@
 -- `lay`: from `copy_at` and one store behind it.
-use mathlib.Core.Path.{_≡_, sym, _∙_, ap}
-use mathlib.Core.List.{List, [], _∷_, _++_}
+use mathlib.Core.Path.{_∙_, ap}
+use mathlib.Core.List.{List}
 use native.Mathlib.Omega.{arith}
 use Prim.Native.Nat.{ℕ, _+_}
 use lib.ListN.{length, set}
@@ -8,7 +8,7 @@ use lib.Seq.{sets, length-sets}
 use Rattle.laws.specs.Ranges.{part}
 use Rattle.protocol.specs.Decode.{fieldsAt}
 use Rattle.protocol.specs.Frame.{reply}
-use Rattle.buffers.specs.Sizes.{name-size}
+use Rattle.protocol.specs.Sizes.{name-size}
 use Rattle.listing.specs.Laws.{name-laid, name-read}
 use borrow.Author.Needs.{needs}
 use Rattle.listing.proofs.lay.Statement.{statement}

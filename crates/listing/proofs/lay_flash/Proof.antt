@@ -1,12 +1,7 @@
 -- `lay_flash`: from `lay`, lent each name.
-use mathlib.Core.Path.{_≡_, sym, _∙_, ap, subst, refl}
-use mathlib.Core.List.{List, [], _∷_, _++_}
 use native.Mathlib.Omega.{arith}
-use Rattle.buffers.specs.Sizes.{name-size}
-use Rattle.protocol.specs.declared.FlashKind.{FlashKind}
-use Rattle.protocol.specs.Names.{flashName, flashFolder, flashWord}
-use Rattle.protocol.specs.Frame.{reply}
-use Rattle.listing.specs.Listed.{Answers}
+use Rattle.protocol.specs.Sizes.{name-size}
+use Rattle.protocol.specs.Names.{flashFolder, flashWord}
 use borrow.Author.Needs.{needs}
 use Rattle.listing.proofs.lay_flash.Statement.{statement}
 use Rattle.listing.proofs.lay_flash.Tie as tie

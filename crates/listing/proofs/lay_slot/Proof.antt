@@ -1,15 +1,12 @@
 -- `lay_slot`: from `first_zero`, lent the name field, and `lay`, lent its front.
-use mathlib.Core.Path.{_≡_, sym, _∙_, ap, subst}
-use mathlib.Core.List.{List, [], _∷_, _++_}
+use mathlib.Core.Path.{_∙_, ap}
 use native.Mathlib.Omega.{arith}
-use Prim.Native.Nat.{ℕ, _+_, _-_, _*_, _≤_}
-use lib.ListN.{length, take, drop}
-use Rattle.laws.specs.Ranges.{part, block, block-fits, length-part}
-use Rattle.laws.specs.Bytes.{text, firstZero}
-use Rattle.protocol.specs.Numbers.{nameSize, slotCount}
-use Rattle.protocol.specs.Frame.{reply}
-use Rattle.buffers.specs.Sizes.{name-size}
-use Rattle.listing.specs.Listed.{Answers}
+use Prim.Native.Nat.{_-_, _≤_}
+use lib.ListN.{length}
+use Rattle.laws.specs.Ranges.{part}
+use Rattle.laws.specs.Bytes.{firstZero}
+use Rattle.protocol.specs.Numbers.{nameSize}
+use Rattle.protocol.specs.Sizes.{name-size}
 use Rattle.listing.specs.Laws.{field-lent, front-short, front-lent}
 use borrow.Author.Needs.{needs}
 use Rattle.listing.proofs.lay_slot.Statement.{statement}

@@ -1,5 +1,5 @@
 -- `listed_at`: the base, a committed slot, or what `flash_at` finds.
-use mathlib.Core.Path.{_≡_, sym, _∙_, ap, subst}
+use mathlib.Core.Path.{sym, _∙_, ap, subst}
 use native.Mathlib.Omega.{arith}
 use Rattle.state.specs.State.{stateOf}
 use Rattle.listing.specs.Listed.{InStore, listedReply}

@@ -1,15 +1,14 @@
 -- `nth_set`: the set bits passed so far are counted, and none of them is number i.
-use mathlib.Core.Path.{_≡_, sym, _∙_, ap}
+use mathlib.Core.Path.{_≡_, sym, _∙_}
 use native.Mathlib.Numerals.{add-one}
 use native.Mathlib.Omega.{arith}
 use mathlib.Core.Logic.{⊎-elim}
-use Prim.Native.Nat.{ℕ, suc, _≤_, _-_, _+_}
+use Prim.Native.Nat.{_≤_, _-_, _+_}
 use lib.Count.{onesIn}
 use lib.Dec.{eqb}
 use borrow.Author.Tests.{eqb-true, eqb-false}
 use Rattle.laws.specs.Bits.{bit, bit-lt}
 use Rattle.laws.specs.Masks.{ones-more}
-use Rattle.protocol.specs.Numbers.{slotCount}
 use Rattle.listing.specs.Laws.{ones-start, nth-last}
 use borrow.Author.Needs.{needs}
 use Rattle.listing.proofs.nth_set.Statement.{statement}

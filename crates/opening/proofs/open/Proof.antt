@@ -1,10 +1,10 @@
 -- `open`: by what the name names.
-use mathlib.Core.Path.{_≡_, sym, _∙_, ap, subst}
+use mathlib.Core.Path.{sym, _∙_, ap, subst}
 use lib.ListN.{length}
+use Rattle.protocol.specs.Inside.{BlobInside}
 use Rattle.protocol.specs.declared.Blob.{Blob}
 use Rattle.state.specs.State.{stateOf}
 use Rattle.rules.specs.Open.{openBlob}
-use Rattle.places.specs.Named.{InMessage}
 use borrow.Author.Needs.{needs}
 use Rattle.opening.proofs.open.Statement.{statement}
 use Rattle.opening.proofs.open.Tie as tie
@@ -14,8 +14,9 @@ enum-known-blob c = search needs
 
 open-store-requires : tie.Need-open-store-requires
 open-store-requires c κs =
+    let i = subst (BlobInside (c .before .before .before .before .before .before .before .before .before .before .before .before .before .before .args .message .now)) (c .before .before .before .before .before .blob .given .1) (c .before .before .before .before .before .before .before .before .before .before .before .before .before .before .pre .0) in
     let p = c .before .before .before .before .before .before .before .before .before .before .before .before .before .before .pre .1 in
-    (subst (λ (b : Blob). InMessage b (length (c .before .before .before .before .before .before .before .before .before .before .before .before .before .before .args .message .now))) (c .before .before .before .before .before .blob .given .1) (c .before .before .before .before .before .before .before .before .before .before .before .before .before .before .pre .0), (p .next-small, (p .table-size, (p .names-size, (p .committed-size, p .staged-size)))))
+    ((i .ends, i .short), (p .next-small, (p .table-size, (p .names-size, (p .committed-size, p .staged-size)))))
 
 enum-known-blob-2 : tie.Need-enum-known-blob-2
 enum-known-blob-2 c = search needs

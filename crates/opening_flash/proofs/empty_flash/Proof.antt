@@ -1,10 +1,10 @@
 -- `empty_flash`: by kind; image or hash from `clear_at` and `with_phase`.
-use mathlib.Core.Path.{_≡_, sym, _∙_, ap}
+use mathlib.Core.Path.{sym, _∙_, ap}
 use Rattle.protocol.specs.Numbers.{imageSize, hashSize}
 use Rattle.protocol.specs.declared.FlashKind.{FlashKind}
 use Rattle.state.specs.State.{stateOf, inBody, flash}
 use Rattle.rules.specs.Open.{openedFlash}
-use Rattle.buffers.specs.Sizes.{image-size, hash-size}
+use Rattle.protocol.specs.Sizes.{image-size, hash-size}
 use Rattle.flash.proofs.Laws.{cleared}
 use Rattle.opening_flash.specs.Lengths.{withoutImage, withoutHash}
 use borrow.Author.Needs.{needs}

@@ -1,7 +1,7 @@
 -- `new_slot`: each part of the slot from the step that sets it.
 use lib.ListN.{set}
 use native.Mathlib.Omega.{arith}
-use Rattle.buffers.specs.Sizes.{name-size}
+use Rattle.protocol.specs.Sizes.{name-size}
 use borrow.Author.Needs.{needs}
 use Rattle.opening_steps.proofs.new_slot.Statement.{statement}
 use Rattle.opening_steps.proofs.new_slot.Tie as tie

@@ -1,5 +1,5 @@
 -- `open_row`: the identifier from `fresh_id`, then the row, its bit and "next".
-use mathlib.Core.Path.{_≡_, sym, _∙_, ap}
+use mathlib.Core.Path.{_∙_, ap}
 use mathlib.Core.List.{[], _∷_}
 use Prim.Native.Nat.{ℕ}
 use Rattle.laws.specs.Ranges.{block}
@@ -7,7 +7,7 @@ use Rattle.laws.specs.Bytes.{bytesOf}
 use Rattle.protocol.specs.Numbers.{rowWords}
 use Rattle.protocol.specs.Frame.{reply}
 use Rattle.state.specs.State.{stateOf, inRow}
-use Rattle.rules.specs.Open.{freshId, after, withNext, newRow}
+use Rattle.rules.specs.Open.{after, withNext, newRow}
 use Rattle.opening_steps.specs.Steps.{rowOpened}
 use borrow.Author.Needs.{needs}
 use Rattle.opening_steps.proofs.open_row.Statement.{statement}

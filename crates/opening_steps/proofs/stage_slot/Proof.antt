@@ -1,5 +1,4 @@
 -- `stage_slot`: the slot as it is, or with its committed region and length staged.
-use mathlib.Core.Path.{_≡_, sym, _∙_, ap}
 use Rattle.state.specs.State.{stateOf}
 use Rattle.opening_steps.specs.Laws.{held-read, held-written}
 use borrow.Author.Needs.{needs}

@@ -1,10 +1,9 @@
 -- `open_held`: a session is on the blob, no row is free, or the slot is staged and the row taken.
 use mathlib.Core.Path.{_≡_, sym, _∙_, ap}
 use native.Mathlib.Omega.{arith}
-use Prim.Native.Nat.{_<_}
 use Rattle.laws.specs.Find.{found}
 use Rattle.laws.specs.Masks.{clear}
-use Rattle.protocol.specs.Numbers.{slotCount, sixteenBits}
+use Rattle.protocol.specs.Numbers.{slotCount}
 use Rattle.state.specs.State.{State, stateOf}
 use Rattle.state.specs.Answers.{optionOf}
 use mathlib.Core.List.{[]}

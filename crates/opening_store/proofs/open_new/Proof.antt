@@ -5,7 +5,7 @@ use Prim.Native.Nat.{_<_}
 use Rattle.laws.specs.Ranges.{part}
 use Rattle.laws.specs.Find.{found}
 use Rattle.laws.specs.Masks.{clear}
-use Rattle.protocol.specs.Numbers.{slotCount, sixteenBits}
+use Rattle.protocol.specs.Numbers.{slotCount}
 use Rattle.state.specs.State.{State, stateOf}
 use Rattle.state.specs.Answers.{optionOf}
 use mathlib.Core.List.{[]}

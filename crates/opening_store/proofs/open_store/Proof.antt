@@ -1,5 +1,5 @@
 -- `open_store`: flags, the name held or not, then its function.
-use mathlib.Core.Path.{_≡_, sym, _∙_, ap}
+use mathlib.Core.Path.{sym, _∙_, ap}
 use Rattle.laws.specs.Ranges.{part}
 use Rattle.laws.specs.Find.{found}
 use Rattle.protocol.specs.Numbers.{slotCount}

@@ -1,7 +1,7 @@
 -- `find_name`: no slot passed so far holds the name.
 use mathlib.Core.Path.{_≡_, sym, _∙_, ap}
 use mathlib.Core.Option.{none}
-use Prim.Native.Nat.{_-_, _≤_, _*_}
+use Prim.Native.Nat.{_-_, _≤_}
 use native.Mathlib.Omega.{arith}
 use Rattle.laws.specs.Ranges.{part}
 use Rattle.laws.specs.Find.{first, first-at, missed}

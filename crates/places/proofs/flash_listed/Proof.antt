@@ -1,5 +1,5 @@
 -- `flash_listed`: by kind, from `is_idle` and `is_verified`.
-use mathlib.Core.Path.{_≡_, sym, _∙_, ap}
+use mathlib.Core.Path.{sym, _∙_, ap}
 use mathlib.Core.Bool.{not}
 use Rattle.protocol.specs.declared.FlashKind.{FlashKind}
 use Rattle.rules.specs.Open.{flashListed}

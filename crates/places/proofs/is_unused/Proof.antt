@@ -1,5 +1,5 @@
 -- `is_unused`: from `find_row`.
-use mathlib.Core.Path.{_≡_, sym, _∙_, ap}
+use mathlib.Core.Path.{sym, _∙_, ap}
 use Rattle.state.specs.Answers.{optionOf}
 use Rattle.places.specs.Search.{isNone}
 use borrow.Author.Needs.{needs}

@@ -1,5 +1,5 @@
 -- `padded_at`: a byte of the name, else a zero of the padding.
-use mathlib.Core.Path.{_≡_, sym, _∙_}
+use mathlib.Core.Path.{sym, _∙_}
 use Rattle.protocol.specs.Numbers.{nameSize}
 use Rattle.laws.specs.Ranges.{part, getD-part}
 use Rattle.places.specs.Laws.{padded-at, padded-zero}

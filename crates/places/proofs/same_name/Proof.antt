@@ -1,5 +1,5 @@
 -- `same_name`: the bytes passed so far agree.
-use mathlib.Core.Path.{_≡_, sym, _∙_, ap₂, ap, refl}
+use mathlib.Core.Path.{_≡_, sym, _∙_, ap₂, ap}
 use native.Mathlib.Omega.{arith}
 use Prim.Native.Nat.{ℕ, _≤_, _-_, _*_, _+_}
 use lib.Dec.{eqb}
@@ -8,7 +8,7 @@ use Rattle.laws.specs.All.{all, all-start, all-step, all-end}
 use Rattle.laws.specs.Ranges.{part, block, block-fits, getD-part, length-part}
 use Rattle.laws.specs.Bytes.{padded, padded-length}
 use Rattle.protocol.specs.Numbers.{nameSize, slotCount}
-use Rattle.buffers.specs.Sizes.{name-size}
+use Rattle.protocol.specs.Sizes.{name-size}
 use Rattle.places.specs.Laws.{sameAt, same-all}
 use borrow.Author.Needs.{needs}
 use Rattle.places.proofs.same_name.Statement.{statement}

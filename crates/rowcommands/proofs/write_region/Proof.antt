@@ -1,6 +1,5 @@
 -- `write_region`: each way out is one of the ways of `written`.
 use mathlib.Core.Path.{refl}
-use native.Mathlib.Omega.{arith}
 use borrow.Author.Tests.{le-leb, lt-leb}
 use borrow.Author.Needs.{needs}
 use Rattle.rowcommands.proofs.write_region.Statement.{statement}

@@ -4,7 +4,8 @@ use mathlib.Core.List.{List}
 use Prim.Native.Nat.{ℕ}
 use Rattle.state.specs.State.{stateOf}
 use Rattle.rules.specs.Respond.{served}
-use Rattle.running.specs.Progress.{reply-fits, message-is, step-is}
+use Rattle.laws.specs.Ranges.{lent-part}
+use Rattle.running.specs.Progress.{reply-fits, step-is}
 use borrow.Author.Needs.{needs}
 use Rattle.running.proofs.answer_one.Statement.{statement}
 use Rattle.running.proofs.answer_one.Tie as tie
@@ -58,7 +59,7 @@ returns c =
     let a = c .before .before .before .before .before .before .before .before .before .before .before .before .before .before .before .before .before .before .before .before .before .before .before .before .before .before .before .before .before .before .before .before .before .before .before .before .before .before .before .args in
     step-is (a .text .now) (a .at)
     (c .before .before .before .before .before .before .before .before .before .before .before .before .before .before .before .before .before .before .before .before .before .respond .ensures
-    ∙ ap (λ (m : List ℕ). served (a .clock) m (stateOf (a .control) (a .table .now) (a .names .now) (a .committed .now) (a .staged .now) (a .image .now) (a .hash .now)) (a .answer .now)) (message-is (a .start) (a .len) (a .records .now)))
+    ∙ ap (λ (m : List ℕ). served (a .clock) m (stateOf (a .control) (a .table .now) (a .names .now) (a .committed .now) (a .staged .now) (a .image .now) (a .hash .now)) (a .answer .now)) (lent-part (a .start) (a .len) (a .records .now)))
     (c .before .before .before .write-line .ensures)
 
 pub answer-one-spec : {M : Type 1} → statement M

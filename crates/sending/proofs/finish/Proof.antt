@@ -1,8 +1,7 @@
 -- `sending::finish` meets its contract: each kind of reply by its law. Assumes nothing.
 use borrow.Author.Needs.{needs}
-use mathlib.Core.Path.{_≡_, sym, _∙_, ap, subst}
-use mathlib.Core.List.{List}
-use Prim.Native.Nat.{ℕ, _≤_}
+use mathlib.Core.Path.{sym, _∙_, ap, subst}
+use Prim.Native.Nat.{_≤_}
 use native.Mathlib.Omega.{arith}
 use Rattle.protocol.specs.Numbers.{readMost}
 use Rattle.protocol.specs.Frame.{reply}

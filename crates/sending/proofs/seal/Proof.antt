@@ -1,18 +1,14 @@
 -- `sending::seal` meets its contract: header and CRC go in front of the fields that stand in their place. Assumes nothing.
 use borrow.Author.Needs.{needs}
-use mathlib.Core.Path.{_≡_, _∙_, ap}
-use native.Mathlib.Omega.{arith}
+use mathlib.Core.Path.{_∙_, ap}
 use Rattle.laws.specs.Bytes.{bytesOf}
-use Prim.Native.Nat.{ℕ, _+_, _-_}
-use lib.ListN.{take, drop}
+use Rattle.laws.specs.Ranges.{lent-part}
+use Prim.Native.Nat.{_-_}
 use Rattle.crc.specs.Crc.{crc}
 use Rattle.protocol.specs.Decode.{fieldsAt}
 use Rattle.sending.proofs.Laws.{sealed}
 use Rattle.sending.proofs.seal.Statement.{statement}
 use Rattle.sending.proofs.seal.Tie as tie
-
-behind : (n : ℕ) → fieldsAt + n - fieldsAt ≡ n
-behind n = omega arith
 
 add-end : tie.Need-add-end
 add-end c = search needs
@@ -51,7 +47,7 @@ same-length : tie.Need-same-length
 same-length c = search needs
 
 returns : tie.Need-returns
-returns c = let a = c .before .before .before .before .before .before .before .before .before .before .before .before .before .before .before .before .args .answer .now in let n = c .before .before .before .before .before .before .before .before .before .before .before .before .before .before .before .before .args .len in sealed (c .before .before .before .before .before .before .before .before .before .before .before .before .before .before .before .before .args .sub) n _ _ a _ _ _ (c .before .before .before .before .before .before .before .before .before .before .before .before .before .before .header-of .ensures) (c .before .before .before .before .before .before .before .before .before .before .bytes-of-u16 .ensures ∙ ap (bytesOf 2) (c .before .before .before .before .before .before .before .before .before .before .before .crc16 .ensures ∙ ap (λ (k : ℕ). crc (take k (drop fieldsAt a))) (behind n))) (c .before .before .before .before .before .before .before .put-at .ensures .1) (c .before .before .before .before .before .before .before .put-at .ensures .0) (c .before .before .put-at2 .ensures .1) (c .before .before .before .before .before .before .before .before .before .before .before .before .before .before .before .before .pre)
+returns c = let a = c .before .before .before .before .before .before .before .before .before .before .before .before .before .before .before .before .args .answer .now in let n = c .before .before .before .before .before .before .before .before .before .before .before .before .before .before .before .before .args .len in sealed (c .before .before .before .before .before .before .before .before .before .before .before .before .before .before .before .before .args .sub) n _ _ a _ _ _ (c .before .before .before .before .before .before .before .before .before .before .before .before .before .before .header-of .ensures) (c .before .before .before .before .before .before .before .before .before .before .bytes-of-u16 .ensures ∙ ap (bytesOf 2) (c .before .before .before .before .before .before .before .before .before .before .before .crc16 .ensures ∙ ap crc (lent-part fieldsAt n a))) (c .before .before .before .before .before .before .before .put-at .ensures .1) (c .before .before .before .before .before .before .before .put-at .ensures .0) (c .before .before .put-at2 .ensures .1) (c .before .before .before .before .before .before .before .before .before .before .before .before .before .before .before .before .pre)
 
 pub seal-spec : {M : Type 1} → statement M
 seal-spec =

@@ -1,15 +1,15 @@
 -- `serving::serve` meets its contract: each command by what its code ensures. Assumes nothing.
 use borrow.Author.Needs.{needs}
-use mathlib.Core.Path.{_≡_, refl, sym, _∙_, ap}
+use mathlib.Core.Path.{refl, ap}
 use mathlib.Core.List.{List}
 use Prim.Native.Nat.{ℕ, _≤_}
 use native.Mathlib.Omega.{arith}
 use Rattle.protocol.specs.Frame.{Reply}
-use Rattle.state.specs.State.{State, stateOf}
+use Rattle.state.specs.State.{stateOf}
 use Rattle.rules.specs.Respond.{answered}
 use Rattle.commands.specs.declared.Said.the-variants.{Refused}
 use Rattle.serving.specs.Serves.{plain, laying, asked-is}
-use Rattle.serving.proofs.Laws.{shape-of, lengths-fit, inside-of, delete-inside, stat-inside, write-rest}
+use Rattle.serving.proofs.Laws.{shape-of, lengths-fit, inside-of, write-rest}
 use Rattle.serving.proofs.serve.Statement.{statement}
 use Rattle.serving.proofs.serve.Tie as tie
 
@@ -80,13 +80,13 @@ enum-known-asked-7 : tie.Need-enum-known-asked-7
 enum-known-asked-7 c = search needs
 
 delete-requires : tie.Need-delete-requires
-delete-requires c κs = let g = shape-of (stateOf (c .before .before .before .before .before .before .before .before .before .before .before .before .before .before .before .args .control) (c .before .before .before .before .before .before .before .before .before .before .before .before .before .before .before .args .table .now) (c .before .before .before .before .before .before .before .before .before .before .before .before .before .before .before .args .names .now) (c .before .before .before .before .before .before .before .before .before .before .before .before .before .before .before .args .committed .now) (c .before .before .before .before .before .before .before .before .before .before .before .before .before .before .before .args .staged .now) (c .before .before .before .before .before .before .before .before .before .before .before .before .before .before .before .args .image .now) (c .before .before .before .before .before .before .before .before .before .before .before .before .before .before .before .args .hash .now)) (c .before .before .before .before .before .before .before .before .before .before .before .before .before .before .before .pre .0) in (delete-inside (c .before .before .before .before .before .before .before .before .before .before .before .before .before .before .before .args .message .now) (c .before .before .before .before .before .before .before .before .before .before .before .before .before .before .before .args .asked) _ (c .before .before .before .before .before .before .before .before .before .before .before .before .before .before .before .pre .1 .0) (c .before .before .before .before .before .asked7 .given .1), (g .table-size, (g .names-size, (g .committed-size, g .staged-size))))
+delete-requires c κs = let g = shape-of (stateOf (c .before .before .before .before .before .before .before .before .before .before .before .before .before .before .before .args .control) (c .before .before .before .before .before .before .before .before .before .before .before .before .before .before .before .args .table .now) (c .before .before .before .before .before .before .before .before .before .before .before .before .before .before .before .args .names .now) (c .before .before .before .before .before .before .before .before .before .before .before .before .before .before .before .args .committed .now) (c .before .before .before .before .before .before .before .before .before .before .before .before .before .before .before .args .staged .now) (c .before .before .before .before .before .before .before .before .before .before .before .before .before .before .before .args .image .now) (c .before .before .before .before .before .before .before .before .before .before .before .before .before .before .before .args .hash .now)) (c .before .before .before .before .before .before .before .before .before .before .before .before .before .before .before .pre .0) in (inside-of (c .before .before .before .before .before .before .before .before .before .before .before .before .before .before .before .args .message .now) (c .before .before .before .before .before .before .before .before .before .before .before .before .before .before .before .args .asked) _ (c .before .before .before .before .before .before .before .before .before .before .before .before .before .before .before .pre .1 .0) (c .before .before .before .before .before .asked7 .given .1), (g .table-size, (g .names-size, (g .committed-size, g .staged-size))))
 
 enum-known-asked-8 : tie.Need-enum-known-asked-8
 enum-known-asked-8 c = search needs
 
 stat-requires : tie.Need-stat-requires
-stat-requires c κs = let g = shape-of (stateOf (c .before .before .before .before .before .before .before .before .before .before .before .before .before .args .control) (c .before .before .before .before .before .before .before .before .before .before .before .before .before .args .table .now) (c .before .before .before .before .before .before .before .before .before .before .before .before .before .args .names .now) (c .before .before .before .before .before .before .before .before .before .before .before .before .before .args .committed .now) (c .before .before .before .before .before .before .before .before .before .before .before .before .before .args .staged .now) (c .before .before .before .before .before .before .before .before .before .before .before .before .before .args .image .now) (c .before .before .before .before .before .before .before .before .before .before .before .before .before .args .hash .now)) (c .before .before .before .before .before .before .before .before .before .before .before .before .before .pre .0) in (stat-inside (c .before .before .before .before .before .before .before .before .before .before .before .before .before .args .message .now) (c .before .before .before .before .before .before .before .before .before .before .before .before .before .args .asked) _ (c .before .before .before .before .before .before .before .before .before .before .before .before .before .pre .1 .0) (c .before .before .before .asked8 .given .1), (g .table-size, g .names-size))
+stat-requires c κs = let g = shape-of (stateOf (c .before .before .before .before .before .before .before .before .before .before .before .before .before .args .control) (c .before .before .before .before .before .before .before .before .before .before .before .before .before .args .table .now) (c .before .before .before .before .before .before .before .before .before .before .before .before .before .args .names .now) (c .before .before .before .before .before .before .before .before .before .before .before .before .before .args .committed .now) (c .before .before .before .before .before .before .before .before .before .before .before .before .before .args .staged .now) (c .before .before .before .before .before .before .before .before .before .before .before .before .before .args .image .now) (c .before .before .before .before .before .before .before .before .before .before .before .before .before .args .hash .now)) (c .before .before .before .before .before .before .before .before .before .before .before .before .before .pre .0) in (inside-of (c .before .before .before .before .before .before .before .before .before .before .before .before .before .args .message .now) (c .before .before .before .before .before .before .before .before .before .before .before .before .before .args .asked) _ (c .before .before .before .before .before .before .before .before .before .before .before .before .before .pre .1 .0) (c .before .before .before .asked8 .given .1), (g .table-size, g .names-size))
 
 enum-known-asked-9 : tie.Need-enum-known-asked-9
 enum-known-asked-9 c = search needs

@@ -1,13 +1,11 @@
 -- `outcome`: of the flash session, of none.
-use mathlib.Core.Path.{_≡_, sym, _∙_, ap, refl}
 use mathlib.Core.List.{List}
 use Prim.Native.Nat.{ℕ}
-use Rattle.protocol.specs.Frame.{Reply}
-use Rattle.state.specs.State.{State, stateOf}
+use Rattle.state.specs.State.{stateOf}
 use Rattle.rules.specs.Store.{outcome}
-use Rattle.rules.specs.Session.{by, job, onRow, onSession}
-use Rattle.buffers.specs.declared.Wanted.the-variants.{Id, Flash}
-use Rattle.buffers.specs.Lookup.{by-id, by-flash}
+use Rattle.rules.specs.Session.{by, job}
+use Rattle.buffers.specs.declared.Wanted.the-variants.{Flash}
+use Rattle.buffers.specs.Lookup.{by-flash}
 use Rattle.sessions.proofs.Laws.{found-low, row-is, found-flash, of-row, of-none}
 use borrow.Author.Needs.{needs}
 use Rattle.sessions.proofs.outcome.Statement.{statement}

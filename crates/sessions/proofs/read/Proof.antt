@@ -1,13 +1,13 @@
 -- `read`: of a store session, of the flash session, of none.
-use mathlib.Core.Path.{_≡_, sym, _∙_, ap, refl}
+use mathlib.Core.Path.{_≡_, _∙_, ap, refl}
 use mathlib.Core.List.{List}
 use Prim.Native.Nat.{ℕ}
 use Rattle.protocol.specs.Frame.{Reply}
 use Rattle.state.specs.State.{State, stateOf}
 use Rattle.rules.specs.Store.{read}
-use Rattle.rules.specs.Session.{by, job, onRow, onSession}
-use Rattle.buffers.specs.declared.Wanted.the-variants.{Id, Flash}
-use Rattle.buffers.specs.Lookup.{by-id, by-flash}
+use Rattle.rules.specs.Session.{by, onRow, onSession}
+use Rattle.buffers.specs.declared.Wanted.the-variants.{Id}
+use Rattle.buffers.specs.Lookup.{by-id}
 use Rattle.sessions.proofs.Laws.{found-low, row-is, of-row, of-none, flash-read, kept-answer}
 use native.Mathlib.Omega.{arith}
 use Rattle.protocol.specs.Numbers.{notFound, notSupported}

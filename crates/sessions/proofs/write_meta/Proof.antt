@@ -1,13 +1,11 @@
 -- `write_meta`: of a session, of none.
-use mathlib.Core.Path.{_≡_, sym, _∙_, ap, refl}
 use mathlib.Core.List.{List}
 use Prim.Native.Nat.{ℕ}
-use Rattle.protocol.specs.Frame.{Reply}
-use Rattle.state.specs.State.{State, stateOf}
+use Rattle.state.specs.State.{stateOf}
 use Rattle.rules.specs.Store.{writeMeta}
-use Rattle.rules.specs.Session.{by, job, onRow, onSession}
-use Rattle.buffers.specs.declared.Wanted.the-variants.{Id, Flash}
-use Rattle.buffers.specs.Lookup.{by-id, by-flash}
+use Rattle.rules.specs.Session.{by}
+use Rattle.buffers.specs.declared.Wanted.the-variants.{Id}
+use Rattle.buffers.specs.Lookup.{by-id}
 use Rattle.sessions.proofs.Laws.{of-row, of-none, meta-is}
 use borrow.Author.Needs.{needs}
 use Rattle.sessions.proofs.write_meta.Statement.{statement}

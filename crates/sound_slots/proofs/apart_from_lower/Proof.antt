@@ -1,7 +1,7 @@
 -- `apart_from_lower`: the loop carries the answer for the slots passed.
 use native.Mathlib.Omega.{arith}
 use mathlib.Core.Path.{_≡_}
-use Prim.Native.Nat.{ℕ, _≤_, _-_}
+use Prim.Native.Nat.{_≤_, _-_}
 use Rattle.laws.specs.All.{all, all-start, all-step, all-end, flag-false, clash-none}
 use Rattle.state.specs.State.{State}
 use Rattle.sound_slots.specs.Slots.{withNames}

@@ -1,5 +1,5 @@
 -- `same_part`: the parts lent.
-use Rattle.sound_slots.proofs.Laws.{cut}
+use Rattle.laws.specs.Ranges.{lent-part}
 use borrow.Author.Needs.{needs}
 use Rattle.sound_slots.proofs.same_part.Statement.{statement}
 use Rattle.sound_slots.proofs.same_part.Tie as tie
@@ -32,7 +32,7 @@ same-bytes-requires : tie.Need-same-bytes-requires
 same-bytes-requires c κs = search needs
 
 returns : tie.Need-returns
-returns c = rw (c .same-bytes .ensures, cut, cut)
+returns c = rw (c .same-bytes .ensures, lent-part, lent-part)
 
 pub same-part-spec : {M : Type 1} → statement M
 same-part-spec =

@@ -3,10 +3,9 @@ use native.Mathlib.Omega.{arith}
 use mathlib.Core.Path.{_∙_, ap}
 use Prim.Native.Nat.{_*_}
 use lib.ListN.{length}
-use Rattle.laws.specs.Ranges.{length-part}
+use Rattle.laws.specs.Ranges.{length-part, lent-part}
 use Rattle.state.specs.Soundness.{usedSlot}
 use Rattle.protocol.specs.Numbers.{nameSize, slotSize}
-use Rattle.sound_slots.proofs.Laws.{cut}
 use borrow.Author.Needs.{needs}
 use Rattle.sound_slots.proofs.used_slot.Statement.{statement}
 use Rattle.sound_slots.proofs.used_slot.Tie as tie
@@ -32,11 +31,11 @@ part-store-field-end c = omega arith
 
 store-field-requires : tie.Need-store-field-requires
 unfolding nameSize
-store-field-requires c κs = let l = c .before .before .args .names .now in let k = c .before .before .args .k in ap length (cut (k * 32) 32 l) ∙ length-part (k * 32) 32 l (omega arith)
+store-field-requires c κs = let l = c .before .before .args .names .now in let k = c .before .before .args .k in ap length (lent-part (k * 32) 32 l) ∙ length-part (k * 32) 32 l (omega arith)
 
 returns : tie.Need-returns
 unfolding usedSlot nameSize slotSize
-returns c = λ b. rw (c .store-field .ensures, cut (c .before .before .before .args .k * 32) 32 (c .before .before .before .args .names .now))
+returns c = λ b. rw (c .store-field .ensures, lent-part (c .before .before .before .args .k * 32) 32 (c .before .before .before .args .names .now))
 
 pub used-slot-spec : {M : Type 1} → statement M
 used-slot-spec =

@@ -1,5 +1,5 @@
 -- `zero_part`: the part lent.
-use Rattle.sound_slots.proofs.Laws.{cut}
+use Rattle.laws.specs.Ranges.{lent-part}
 use borrow.Author.Needs.{needs}
 use Rattle.sound_slots.proofs.zero_part.Statement.{statement}
 use Rattle.sound_slots.proofs.zero_part.Tie as tie
@@ -20,7 +20,7 @@ all-zero-requires : tie.Need-all-zero-requires
 all-zero-requires c κs = search needs
 
 returns : tie.Need-returns
-returns c = rw (c .all-zero .ensures, cut)
+returns c = rw (c .all-zero .ensures, lent-part)
 
 pub zero-part-spec : {M : Type 1} → statement M
 zero-part-spec =

@@ -1,10 +1,9 @@
 -- `stat`: by what the name names.
-use mathlib.Core.Path.{_≡_, sym, _∙_, ap, subst}
-use lib.ListN.{length}
+use mathlib.Core.Path.{sym, _∙_, ap, subst}
+use Rattle.protocol.specs.Inside.{BlobInside}
 use Rattle.protocol.specs.declared.Blob.{Blob}
 use Rattle.state.specs.State.{stateOf}
 use Rattle.rules.specs.Open.{statBlob}
-use Rattle.places.specs.Named.{InMessage}
 use borrow.Author.Needs.{needs}
 use Rattle.stating.proofs.stat.Statement.{statement}
 use Rattle.stating.proofs.stat.Tie as tie
@@ -13,7 +12,7 @@ enum-known-blob : tie.Need-enum-known-blob
 enum-known-blob c = search needs
 
 stat-store-requires : tie.Need-stat-store-requires
-stat-store-requires c κs = (subst (λ (b : Blob). InMessage b (length (c .before .before .before .before .before .before .args .message .now))) (c .before .blob .given .1) (c .before .before .before .before .before .before .pre .0) .0, c .before .before .before .before .before .before .pre .1)
+stat-store-requires c κs = (subst (BlobInside (c .before .before .before .before .before .before .args .message .now)) (c .before .blob .given .1) (c .before .before .before .before .before .before .pre .0) .ends, c .before .before .before .before .before .before .pre .1)
 
 enum-known-blob-2 : tie.Need-enum-known-blob-2
 enum-known-blob-2 c = search needs

@@ -1,5 +1,5 @@
 -- `stat_flash`: the name is not listed, has no session, or has one.
-use mathlib.Core.Path.{_≡_, sym, _∙_, ap}
+use mathlib.Core.Path.{sym, _∙_, ap}
 use Prim.Native.Nat.{ℕ}
 use Rattle.protocol.specs.Frame.{reply, statFields}
 use Rattle.state.specs.State.{stateOf}

@@ -1,5 +1,5 @@
 -- `stat_row`: the row as read; a slot's view or the flash's length.
-use mathlib.Core.Path.{_≡_, sym, _∙_, ap, ap₂}
+use mathlib.Core.Path.{_∙_, ap, ap₂}
 use Prim.Native.Nat.{ℕ}
 use Rattle.protocol.specs.Frame.{reply, statFields}
 use Rattle.state.specs.State.{stateOf}

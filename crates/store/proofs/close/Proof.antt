@@ -1,13 +1,11 @@
--- `close`: of a session without WRITE, of a committed slot, of a slot never committed.
-use mathlib.Core.Path.{_≡_, sym, _∙_, ap, refl}
+-- `close`: of a session without WRITE, of a slot never committed, of a committed slot.
+use mathlib.Core.Path.{sym, _∙_, ap}
 use mathlib.Core.List.{List}
-use Prim.Native.Nat.{ℕ, _+_, _*_}
+use Prim.Native.Nat.{ℕ}
 use borrow.Author.Tests.{not-true, not-false}
-use Rattle.laws.specs.Ranges.{block}
-use Rattle.protocol.specs.Numbers.{rowWords}
-use Rattle.state.specs.State.{stateOf}
-use Rattle.state.specs.declared.row.Entry.{Entry}
-use Rattle.state.specs.Entry.{wordsOf, lifted}
+use Rattle.laws.specs.All.{flag-true, flag-false}
+use Rattle.protocol.specs.Frame.{done}
+use Rattle.state.specs.State.{State, stateOf}
 use Rattle.store.proofs.Laws.{close-read, close-kept, close-fresh}
 use borrow.Author.Needs.{needs}
 use Rattle.store.proofs.close.Statement.{statement}
@@ -33,6 +31,29 @@ returns c =
 cast-k : tie.Need-cast-k
 cast-k c = search needs
 
+has-requires : tie.Need-has-requires
+has-requires c κs = search needs
+
+free-slot-requires : tie.Need-free-slot-requires
+free-slot-requires c κs = search needs
+
+same-length-2 : tie.Need-same-length-2
+same-length-2 c = search needs
+
+same-length-3 : tie.Need-same-length-3
+same-length-3 c = search needs
+
+same-length-4 : tie.Need-same-length-4
+same-length-4 c = search needs
+
+same-length-5 : tie.Need-same-length-5
+same-length-5 c = search needs
+
+returns-2 : tie.Need-returns-2
+returns-2 c =
+    let a = c .before .before .before .before .before .before .before .before .before .before .before .before .before .before .before .before .before .before .before .before .before .before .before .before .args in
+    λ (t : ℕ) (im h x : List ℕ). ap (λ (y : State). (done, y)) (c .before .before .before .before .before .before .free-slot .ensures (c .before .before .before .before .before .before .before .before .before .before .before .before .before .before .before .before .before .before .clear-row .last .0) im h) ∙ close-fresh (stateOf (a .control) (a .table .now) (a .names .now) (a .committed .now) (a .staged .now) im h) (a .r) (a .e) (c .before .before .before .before .before .before .before .before .before .before .before .before .before .before .before .before .before .before .before .before .before .before .before .before .pre .0 .row-words) (c .before .before .before .before .before .before .before .before .before .before .before .before .before .before .before .before .before .before .before .before .before .before .before .before .pre .1 .0) t (c .before .before .before .before .before .before .before .before .before .before .before .before .before .before .before .before .before .before .clear-row .last .0) (c .before .before .before .before .before .before .before .before .before .before .before .before .before .before .before .clear-bit .result) (c .before .before .before .before .before .before .before .before .before .before .before .before .before .before .before .before .before .before .clear-row .ensures) (c .before .before .before .before .before .before .before .before .before .before .before .before .before .before .before .clear-bit .ensures) (sym (c .before .before .before .before .before .before .before .before .before .before .before .before .before .before .writes .ensures) ∙ not-false _ (c .before .before .before .before .before .before .before .before .before .before .before .before .before .if1 .left)) (flag-false (c .before .before .before .before .before .before .before .before .before .before .before .has .ensures) (c .before .before .before .before .before .before .before .before .before .before .if2 .taken))
+
 clear-region-requires : tie.Need-clear-region-requires
 clear-region-requires c κs = search needs
 
@@ -42,42 +63,6 @@ mul-next c = search needs
 element-write-next : tie.Need-element-write-next
 element-write-next c = search needs
 
-has-requires : tie.Need-has-requires
-has-requires c κs = search needs
-
-same-length-2 : tie.Need-same-length-2
-same-length-2 c = search needs
-
-same-length-3 : tie.Need-same-length-3
-same-length-3 c = search needs
-
-returns-2 : tie.Need-returns-2
-returns-2 c =
-    let a = c .before .before .before .before .before .before .before .before .before .before .before .before .before .before .before .before .before .before .args in
-    λ (t : ℕ) (im h x : List ℕ). close-kept (stateOf (a .control) (a .table .now) (a .names .now) (a .committed .now) (a .staged .now) im h) (a .r) (a .e) (c .before .before .before .before .before .before .before .before .before .before .before .before .before .before .before .before .before .before .pre .0 .row-words) (c .before .before .before .before .before .before .before .before .before .before .before .before .before .before .before .before .before .before .pre .1 .0) t (c .before .before .before .before .before .before .before .before .before .before .before .before .clear-row .last .0) (c .before .before .before .before .before .before .before .before .before .clear-bit .result) (c .before .before .before .before .before .before .before .before .before .before .before .before .clear-row .ensures) (c .before .before .before .before .before .before .before .before .before .clear-bit .ensures)
-    (c .before .before .before .before .clear-region .last .0) (sym (c .before .before .before .before .before .before .before .before .writes .ensures) ∙ not-false _ (c .before .before .before .before .before .before .before .if1 .left)) (sym (c .before .has .ensures) ∙ c .if2 .taken) (c .before .before .before .before .clear-region .ensures)
-
-clear-name-requires : tie.Need-clear-name-requires
-clear-name-requires c κs = search needs
-
-clear-region-requires-2 : tie.Need-clear-region-requires-2
-clear-region-requires-2 c κs = search needs
-
-mul-next-2 : tie.Need-mul-next-2
-mul-next-2 c = search needs
-
-element-write-next-2 : tie.Need-element-write-next-2
-element-write-next-2 c = search needs
-
-clear-bit-requires-2 : tie.Need-clear-bit-requires-2
-clear-bit-requires-2 c κs = search needs
-
-same-length-4 : tie.Need-same-length-4
-same-length-4 c = search needs
-
-same-length-5 : tie.Need-same-length-5
-same-length-5 c = search needs
-
 same-length-6 : tie.Need-same-length-6
 same-length-6 c = search needs
 
@@ -86,10 +71,9 @@ same-length-7 c = search needs
 
 returns-3 : tie.Need-returns-3
 returns-3 c =
-    let a = c .before .before .before .before .before .before .before .before .before .before .before .before .before .before .before .before .before .before .before .before .before .before .before .before .before .before .before .args in
-    λ (t : ℕ) (im h x : List ℕ). close-fresh (stateOf (a .control) (a .table .now) (a .names .now) (a .committed .now) (a .staged .now) im h) (a .r) (a .e) (c .before .before .before .before .before .before .before .before .before .before .before .before .before .before .before .before .before .before .before .before .before .before .before .before .before .before .before .pre .0 .row-words) (c .before .before .before .before .before .before .before .before .before .before .before .before .before .before .before .before .before .before .before .before .before .before .before .before .before .before .before .pre .1 .0) t (c .before .before .before .before .before .before .before .before .before .before .before .before .before .before .before .before .before .before .before .before .before .clear-row .last .0) (c .before .before .before .before .before .before .before .before .before .before .before .before .before .before .before .before .before .before .clear-bit .result) (c .before .before .before .before .before .before .before .before .before .before .before .before .before .before .before .before .before .before .before .before .before .clear-row .ensures) (c .before .before .before .before .before .before .before .before .before .before .before .before .before .before .before .before .before .before .clear-bit .ensures)
-    (c .before .before .before .before .before .before .before .clear-name .last .0) (c .before .before .before .clear-region2 .last .0) (c .before .before .before .before .before .before .before .before .before .before .before .before .before .clear-region .last .0) (c .clear-bit2 .result) (sym (c .before .before .before .before .before .before .before .before .before .before .before .before .before .before .before .before .before .writes .ensures) ∙ not-false _ (c .before .before .before .before .before .before .before .before .before .before .before .before .before .before .before .before .if1 .left)) (sym (c .before .before .before .before .before .before .before .before .before .before .has .ensures) ∙ c .before .before .before .before .before .before .before .before .before .if2 .left)
-    (c .before .before .before .before .before .before .before .clear-name .ensures) (c .before .before .before .clear-region2 .ensures) (c .before .before .before .before .before .before .before .before .before .before .before .before .before .clear-region .ensures) (c .clear-bit2 .ensures)
+    let a = c .before .before .before .before .before .before .before .before .before .before .before .before .before .before .before .before .before .before .args in
+    λ (t : ℕ) (im h x : List ℕ). close-kept (stateOf (a .control) (a .table .now) (a .names .now) (a .committed .now) (a .staged .now) im h) (a .r) (a .e) (c .before .before .before .before .before .before .before .before .before .before .before .before .before .before .before .before .before .before .pre .0 .row-words) (c .before .before .before .before .before .before .before .before .before .before .before .before .before .before .before .before .before .before .pre .1 .0) t (c .before .before .before .before .before .before .before .before .before .before .before .before .clear-row .last .0) (c .before .before .before .before .before .before .before .before .before .clear-bit .result) (c .before .before .before .before .before .before .before .before .before .before .before .before .clear-row .ensures) (c .before .before .before .before .before .before .before .before .before .clear-bit .ensures)
+    (c .before .before .clear-region .last .0) (sym (c .before .before .before .before .before .before .before .before .writes .ensures) ∙ not-false _ (c .before .before .before .before .before .before .before .if1 .left)) (flag-true (c .before .before .before .before .before .has .ensures) (c .before .before .before .before .if2 .left)) (c .before .before .clear-region .ensures)
 
 pub close-spec : {M : Type 1} → statement M
 close-spec =
@@ -101,20 +85,16 @@ close-spec =
     same-length
     returns
     cast-k
+    has-requires
+    free-slot-requires
+    same-length-2
+    same-length-3
+    same-length-4
+    same-length-5
+    returns-2
     clear-region-requires
     mul-next
     element-write-next
-    has-requires
-    same-length-2
-    same-length-3
-    returns-2
-    clear-name-requires
-    clear-region-requires-2
-    mul-next-2
-    element-write-next-2
-    clear-bit-requires-2
-    same-length-4
-    same-length-5
     same-length-6
     same-length-7
     returns-3)

@@ -1,7 +1,7 @@
 -- `commit`: refused for its length or to a session without WRITE; else staged becomes committed.
-use mathlib.Core.Path.{_≡_, sym, _∙_, ap, refl}
+use mathlib.Core.Path.{sym, _∙_, ap}
 use mathlib.Core.List.{List}
-use Prim.Native.Nat.{ℕ, _+_, _*_}
+use Prim.Native.Nat.{ℕ}
 use borrow.Author.Tests.{not-true, not-false}
 use Rattle.laws.specs.Ranges.{block}
 use Rattle.protocol.specs.Numbers.{rowWords}

@@ -1,15 +1,13 @@
 -- `write`: refused to a session without WRITE; else what `write_region` comes to.
-use mathlib.Core.Path.{_≡_, sym, _∙_, ap, refl}
+use mathlib.Core.Path.{sym, _∙_, ap}
 use mathlib.Core.List.{List}
-use Prim.Native.Nat.{ℕ, _+_, _*_}
+use Prim.Native.Nat.{ℕ}
 use borrow.Author.Tests.{not-true, not-false}
-use Rattle.laws.specs.Ranges.{block}
-use Rattle.protocol.specs.Numbers.{rowWords}
 use Rattle.state.specs.State.{stateOf}
 use Rattle.state.specs.declared.row.Entry.{Entry}
-use Rattle.state.specs.Entry.{wordsOf, lifted}
+use Rattle.state.specs.Entry.{lifted}
 use Rattle.store.proofs.Laws.{write-d5, write-is}
-use Rattle.buffers.specs.Sizes.{slot-size}
+use Rattle.protocol.specs.Sizes.{slot-size}
 use native.Mathlib.Omega.{arith}
 use borrow.Author.Needs.{needs}
 use Rattle.store.proofs.write.Statement.{statement}

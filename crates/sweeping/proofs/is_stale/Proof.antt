@@ -1,7 +1,5 @@
 -- `sweeping::is_stale` meets its contract. Assumes nothing.
 use borrow.Author.Needs.{needs}
-use native.Mathlib.Omega.{arith}
-use mathlib.Core.Path.{_≡_}
 use Rattle.sweeping.proofs.is_stale.Statement.{statement}
 use Rattle.sweeping.proofs.is_stale.Tie as tie
 

@@ -1,8 +1,7 @@
 -- `sweeping::sweep_row` meets its contract: the row is not used, not stale, or closed. Assumes nothing.
 use borrow.Author.Needs.{needs}
-use mathlib.Core.Path.{_≡_, refl, sym, _∙_, ap}
-use mathlib.Core.List.{List, []}
-use native.Mathlib.Omega.{arith}
+use mathlib.Core.Path.{sym, _∙_, ap}
+use mathlib.Core.List.{[]}
 use borrow.Author.Tests.{not-true, not-false}
 use Rattle.protocol.specs.Frame.{Reply}
 use Rattle.state.specs.State.{State, stateOf}

@@ -4,9 +4,9 @@ use Prim.Native.Nat.{ℕ, _-_, _≤_}
 use native.Mathlib.Omega.{arith}
 use lib.ListN.{length, replicate, getD-replicate, length-replicate, length-set}
 use lib.Seq.{paste, paste-zero}
-use Rattle.buffers.specs.Laws.{stored-more, stored-all}
-use Rattle.buffers.proofs.clear_at.Statement.{statement}
-use Rattle.buffers.proofs.clear_at.Tie as tie
+use Rattle.copying.specs.Laws.{stored-more, stored-all}
+use Rattle.copying.proofs.clear_at.Statement.{statement}
+use Rattle.copying.proofs.clear_at.Tie as tie
 
 abbrev Inv-loop : tie.InvT-loop
 Inv-loop dst₀ at n i₀ dst i = (i ≤ n) × ((length dst ≡ length dst₀) × (dst ≡ paste dst₀ at (replicate n 0) i))

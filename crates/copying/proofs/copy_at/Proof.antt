@@ -4,9 +4,9 @@ use Prim.Native.Nat.{_-_, _≤_}
 use native.Mathlib.Omega.{arith}
 use lib.ListN.{length, getD, length-set}
 use lib.Seq.{paste, paste-zero}
-use Rattle.buffers.specs.Laws.{stored-more, stored-all}
-use Rattle.buffers.proofs.copy_at.Statement.{statement}
-use Rattle.buffers.proofs.copy_at.Tie as tie
+use Rattle.copying.specs.Laws.{stored-more, stored-all}
+use Rattle.copying.proofs.copy_at.Statement.{statement}
+use Rattle.copying.proofs.copy_at.Tie as tie
 
 abbrev Inv-loop : tie.InvT-loop
 Inv-loop dst₀ at src i₀ dst i = (i ≤ length src) × ((length dst ≡ length dst₀) × (dst ≡ paste dst₀ at src i))

@@ -1,8 +1,8 @@
 -- `free_slot`: each part of the slot from the step that zeroes it.
 use lib.ListN.{set}
 use borrow.Author.Needs.{needs}
-use Rattle.deleting.proofs.free_slot.Statement.{statement}
-use Rattle.deleting.proofs.free_slot.Tie as tie
+use Rattle.buffers.proofs.free_slot.Statement.{statement}
+use Rattle.buffers.proofs.free_slot.Tie as tie
 
 clear-name-requires : tie.Need-clear-name-requires
 clear-name-requires c κs = search needs
