@@ -1,9 +1,11 @@
 // Open, after the sweep.
 ghost use mathlib.Core.Path.{_≡_};
+ghost use mathlib.Core.Bool.{true};
 ghost use mathlib.Core.List.{List};
 ghost use Prim.Native.Nat.{ℕ};
 ghost use Rattle.protocol.specs.Inside.{BlobInside};
-ghost use Rattle.state.specs.State.{stateOf, Shape};
+ghost use Rattle.state.specs.State.{stateOf};
+ghost use Rattle.state.specs.Soundness.{isSound};
 ghost use Rattle.rules.specs.Open.{openBlob};
 ghost use Rattle.commands.specs.Left.{left};
 use commands::Act;
@@ -28,7 +30,7 @@ pub fn open(
     image: &mut [u8],
     hash: &mut [u8],
 ) -> Act
-    requires { ⌜ BlobInside (now message) blob × Shape (stateOf control (now table) (now names) (now committed) (now staged) (now image) (now hash)) ⌝ }
+    requires { ⌜ BlobInside (now message) blob × (isSound (stateOf control (now table) (now names) (now committed) (now staged) (now image) (now hash)) ≡ true) ⌝ }
     ensures { λ o. ⌜ ((answer : List ℕ) → left o (now (table .exit)) (now (names .exit)) (now (committed .exit)) (now (staged .exit)) (now (image .exit)) (now (hash .exit)) answer ≡ openBlob blob flags clock (now (message .entry)) (stateOf control (now (table .entry)) (now (names .entry)) (now (committed .entry)) (now (staged .entry)) (now (image .entry)) (now (hash .entry)))) ⌝ }
 {
     match blob {

@@ -6,9 +6,10 @@ use Prim.Native.Nat.{ℕ}
 use lib.Dec.{eqb}
 use borrow.Author.Tests.{ne-eqb}
 use lib.ListN.{set}
-use Rattle.laws.specs.Ranges.{block}
-use Rattle.laws.specs.Bytes.{bytesOf}
-use Rattle.protocol.specs.Numbers.{rowCount, slotSize, readWrite}
+use Rattle.laws.specs.Ranges.{block, block-steady, element-steady}
+use Rattle.laws.specs.Bits.{put-bit, putBit}
+use Rattle.laws.specs.Bytes.{bytesOf, padded}
+use Rattle.protocol.specs.Numbers.{rowCount, nameSize, slotSize, readWrite}
 use Rattle.protocol.specs.Frame.{reply}
 use Rattle.state.specs.State.{State, Place, slot, flash, Body, Slots, inRow, inBody, inStore, slotOf, slotOf-steady}
 use Rattle.state.specs.Soundness.{slotAt}
@@ -16,7 +17,7 @@ use Rattle.rules.specs.Store.{withStaged}
 use Rattle.rules.specs.Open.{freshId, after, withNext, newRow, opened, heldSlot}
 use Rattle.buffers.specs.Slots.{stagedAs, staged-put}
 use Rattle.places.specs.Laws.{fresh-same}
-use Rattle.opening_steps.specs.Steps.{rowOpened}
+use Rattle.opening_steps.specs.Steps.{named, rowOpened}
 
 -- the identifier hangs on no slot, and not on the flash
 fresh-put : (p : Place) (b : Body p) (s : State) → freshId (inBody p .put b s) ≡ freshId s
@@ -27,6 +28,19 @@ pub opened-is : (p : Place) (r b flags clean t : ℕ) (v : Body p) (s : State) �
 unfolding rowOpened opened
 opened-is p r b flags clean t v s =
     ap (λ (id : ℕ). (reply (bytesOf 2 id), withNext (after id) (inRow r .put (newRow id b flags clean t) (inBody p .put v s)))) (fresh-put p v s)
+
+-- ---- a new name's slot
+pub named-put : (k : ℕ) (n : List ℕ) (x : Slots) (names : List ℕ) (slots : ℕ) → names ≡ block nameSize k .put (padded nameSize n) (x .names) → slots ≡ putBit k 1 (x .slots)
+    → record { names = names; committed = x .committed; staged = x .staged; slots = slots; marks = x .marks; committedLens = x .committedLens; stagedLens = x .stagedLens } ≡ slotOf k .put (named n (slotOf k .get x)) x
+named-put k n x names slots p q = λ i. record {
+  names = p i;
+  committed = sym (block-steady 0 slotSize k (x .committed)) i;
+  staged = sym (block-steady 0 slotSize k (x .staged)) i;
+  slots = q i;
+  marks = sym (put-bit k (x .marks)) i;
+  committedLens = sym (element-steady 0 k (x .committedLens)) i;
+  stagedLens = sym (element-steady 0 k (x .stagedLens)) i;
+}
 
 -- ---- a held name's slot
 module _ (k flags : ℕ) (s : State) where

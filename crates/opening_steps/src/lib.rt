@@ -7,10 +7,9 @@ ghost use Rattle.laws.specs.Ranges.{part};
 ghost use Rattle.protocol.specs.Numbers.{rowCount, rowWords, slotCount, nameSize, slotSize, nameMost, sixteenBits};
 ghost use Rattle.state.specs.State.{stateOf, inBody, slot};
 ghost use Rattle.state.specs.Soundness.{slotAt};
-ghost use Rattle.rules.specs.Open.{newSlot, heldSlot};
+ghost use Rattle.rules.specs.Open.{heldSlot};
 ghost use Rattle.commands.specs.Left.{left};
-ghost use Rattle.opening_steps.specs.Steps.{rowOpened};
-use buffers::clear_region;
+ghost use Rattle.opening_steps.specs.Steps.{named, rowOpened};
 use buffers::copy_region;
 use buffers::put_name;
 use commands::Act;
@@ -20,7 +19,6 @@ use places::next_id;
 use protocol::Flags;
 use state::Control;
 use state::Status;
-use state::mask::clear_bit;
 use state::mask::set_bit;
 use state::row::Entry;
 use state::row::word_with;
@@ -57,7 +55,7 @@ pub fn open_row(
     }
 }
 
-// Slot k takes a new name: it starts empty and is not committed.
+// Slot k takes a new name. An unused slot of a sound state is zero already, so nothing is cleared.
 pub fn new_slot(
     k: usize,
     message: &[u8],
@@ -65,20 +63,13 @@ pub fn new_slot(
     len: usize,
     control: Control,
     names: &mut [u8],
-    committed: &mut [u8],
-    staged: &mut [u8],
 ) -> Control
-    requires { ⌜ (k < slotCount) × (((start + len ≤ length (now message)) × (len ≤ nameMost)) × ((length (now names) ≡ slotCount * nameSize) × ((length (now committed) ≡ slotCount * slotSize) × (length (now staged) ≡ slotCount * slotSize)))) ⌝ }
-    ensures { λ v. ⌜ ((table image hash : List ℕ) → stateOf v table (now (names .exit)) (now (committed .exit)) (now (staged .exit)) image hash ≡ inBody (slot k) .put (newSlot (part start len (now (message .entry)))) (stateOf control table (now (names .entry)) (now (committed .entry)) (now (staged .entry)) image hash)) ⌝ }
+    requires { ⌜ (k < slotCount) × (((start + len ≤ length (now message)) × (len ≤ nameMost)) × (length (now names) ≡ slotCount * nameSize)) ⌝ }
+    ensures { λ v. ⌜ ((table committed staged image hash : List ℕ) → stateOf v table (now (names .exit)) committed staged image hash ≡ inBody (slot k) .put (named (part start len (now (message .entry))) (slotAt k (stateOf control table (now (names .entry)) committed staged image hash))) (stateOf control table (now (names .entry)) committed staged image hash)) ⌝ }
 {
     put_name(names, k, message, start, len);
-    clear_region(committed, k);
-    clear_region(staged, k);
     let mut next = control;
     next.slots = set_bit(control.slots, k);
-    next.committed = clear_bit(control.committed, k);
-    next.committed_len[k] = 0;
-    next.staged_len[k] = 0;
     next
 }
 

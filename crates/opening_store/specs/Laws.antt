@@ -5,18 +5,18 @@ use mathlib.Core.List.{List}
 use mathlib.Core.Option.{Option, none, some}
 use Prim.Native.Nat.{ℕ}
 use lib.Dec.{eqb}
-use borrow.Author.Tests.{eq-eqb, ne-eqb}
-use Rattle.laws.specs.Find.{first}
+use borrow.Author.Tests.{eq-eqb, ne-eqb, eqb-true}
+use Rattle.laws.specs.Find.{first, found}
 use Rattle.laws.specs.Masks.{clear}
 use Rattle.protocol.specs.Numbers.{slotCount, readOnly, notFound, noRoom, busy, invalid}
 use Rattle.protocol.specs.Frame.{refused}
-use Rattle.state.specs.State.{State, inBody, slot}
+use Rattle.state.specs.State.{State, Slot, inBody, slot}
 use Rattle.state.specs.Soundness.{slotAt}
 use Rattle.rules.specs.Open.{rowOn, freeRowIn, freeSlotIn, openNew, openFree, openHeld, openNamed, openStore, slotNamed, storeFlags, newSlot, heldSlot}
 use Rattle.buffers.specs.Lookup.{rowSought, by-blob}
 use Rattle.buffers.specs.declared.Wanted.the-variants.{Blob}
 use Rattle.places.specs.Search.{holds, slot-named, free-row, free-slot}
-use Rattle.opening_steps.specs.Steps.{rowOpened}
+use Rattle.opening_steps.specs.Steps.{FreeZero, named, rowOpened}
 use Rattle.opening_steps.specs.Laws.{opened-is}
 
 -- ---- a new name
@@ -34,8 +34,11 @@ module _ (n : List ℕ) (flags t : ℕ) (s : State) where
     pub new-no-slot : first (clear (s .store .slots)) slotCount ≡ none → (refused noRoom, s) ≡ openNew (freeRowIn s) (freeSlotIn s) n flags t s
     new-no-slot f = new-place none f
 
-    pub new-ok : (k : ℕ) → first (clear (s .store .slots)) slotCount ≡ some k → rowOpened r k flags 0 t (inBody (slot k) .put (newSlot n) s) ≡ openNew (freeRowIn s) (freeSlotIn s) n flags t s
-    new-ok k f = opened-is (slot k) r k flags 0 t (newSlot n) s ∙ new-place (some k) f
+    pub new-ok : (k : ℕ) → first (clear (s .store .slots)) slotCount ≡ some k → FreeZero (s .store) → rowOpened r k flags 0 t (inBody (slot k) .put (named n (slotAt k s)) s) ≡ openNew (freeRowIn s) (freeSlotIn s) n flags t s
+    new-ok k f z =
+        let g = found (clear (s .store .slots)) slotCount k f in
+        ap (λ (b : Slot). rowOpened r k flags 0 t (inBody (slot k) .put (named n b) s)) (z k (g .low) (eqb-true _ _ (g .passes)))
+        ∙ opened-is (slot k) r k flags 0 t (newSlot n) s ∙ new-place (some k) f
 
 -- ---- a held name
 module _ (k flags t : ℕ) (s : State) where
@@ -63,18 +66,18 @@ module _ (n : List ℕ) (flags t : ℕ) (s : State) where
   flags-bad p = ap (λ (x : Bool). cond x (openNamed (slotNamed n s) n flags t s) (refused invalid, s)) (sym p)
 
   module _ (p : storeFlags flags ≡ true) where
-    named : (o : Option ℕ) → first (holds n (s .store .names) (s .store .slots)) slotCount ≡ o → openNamed o n flags t s ≡ openStore n flags t s
+    with-name : (o : Option ℕ) → first (holds n (s .store .names) (s .store .slots)) slotCount ≡ o → openNamed o n flags t s ≡ openStore n flags t s
     unfolding openStore
-    named o e =
+    with-name o e =
         ap (λ (x : Option ℕ). openNamed x n flags t s) (sym (slot-named n s ∙ e))
         ∙ ap (λ (x : Bool). cond x (openNamed (slotNamed n s) n flags t s) (refused invalid, s)) (sym p)
 
     pub name-held : (k : ℕ) → first (holds n (s .store .names) (s .store .slots)) slotCount ≡ some k → openHeld (rowOn k s) k flags t s ≡ openStore n flags t s
-    name-held k e = named (some k) e
+    name-held k e = with-name (some k) e
 
     module _ (e : first (holds n (s .store .names) (s .store .slots)) slotCount ≡ none) where
       choice : (b : Bool) → eqb flags readOnly ≡ b → cond b (refused notFound, s) (openNew (freeRowIn s) (freeSlotIn s) n flags t s) ≡ openStore n flags t s
-      choice b q = ap (λ (x : Bool). cond x (refused notFound, s) (openNew (freeRowIn s) (freeSlotIn s) n flags t s)) (sym q) ∙ named none e
+      choice b q = ap (λ (x : Bool). cond x (refused notFound, s) (openNew (freeRowIn s) (freeSlotIn s) n flags t s)) (sym q) ∙ with-name none e
 
       pub name-absent : flags ≡ readOnly → (refused notFound, s) ≡ openStore n flags t s
       name-absent q = choice true (eq-eqb flags readOnly q)

@@ -5,9 +5,10 @@ ghost use Prim.Native.Nat.{ℕ, _+_, _*_, _<_, _≤_};
 ghost use lib.ListN.{length};
 ghost use Rattle.laws.specs.Ranges.{part};
 ghost use Rattle.protocol.specs.Numbers.{rowCount, rowWords, slotCount, nameSize, slotSize, nameMost, sixteenBits};
-ghost use Rattle.state.specs.State.{stateOf};
+ghost use Rattle.state.specs.State.{storeOf, stateOf};
 ghost use Rattle.rules.specs.Open.{rowOn, freeRowIn, freeSlotIn, openNew, openHeld, openStore, storeFlags};
 ghost use Rattle.commands.specs.Left.{left};
+ghost use Rattle.opening_steps.specs.Steps.{FreeZero};
 use buffers::Wanted;
 use buffers::find_row;
 use commands::Act;
@@ -39,11 +40,9 @@ fn open_new(
     control: Control,
     table: &mut [u32],
     names: &mut [u8],
-    committed: &mut [u8],
-    staged: &mut [u8],
 ) -> Act
-    requires { ⌜ ((start + len ≤ length (now message)) × (len ≤ nameMost)) × ((control .next < sixteenBits) × ((length (now table) ≡ rowCount * rowWords) × ((length (now names) ≡ slotCount * nameSize) × ((length (now committed) ≡ slotCount * slotSize) × (length (now staged) ≡ slotCount * slotSize))))) ⌝ }
-    ensures { λ o. ⌜ ((image hash answer : List ℕ) → left o (now (table .exit)) (now (names .exit)) (now (committed .exit)) (now (staged .exit)) image hash answer ≡ openNew (freeRowIn (stateOf control (now (table .entry)) (now (names .entry)) (now (committed .entry)) (now (staged .entry)) image hash)) (freeSlotIn (stateOf control (now (table .entry)) (now (names .entry)) (now (committed .entry)) (now (staged .entry)) image hash)) (part start len (now (message .entry))) flags clock (stateOf control (now (table .entry)) (now (names .entry)) (now (committed .entry)) (now (staged .entry)) image hash)) ⌝ }
+    requires { ⌜ ((start + len ≤ length (now message)) × (len ≤ nameMost)) × ((control .next < sixteenBits) × ((length (now table) ≡ rowCount * rowWords) × (length (now names) ≡ slotCount * nameSize))) ⌝ }
+    ensures { λ o. ⌜ ((committed staged image hash answer : List ℕ) → FreeZero (storeOf control (now (names .entry)) committed staged) → left o (now (table .exit)) (now (names .exit)) committed staged image hash answer ≡ openNew (freeRowIn (stateOf control (now (table .entry)) (now (names .entry)) committed staged image hash)) (freeSlotIn (stateOf control (now (table .entry)) (now (names .entry)) committed staged image hash)) (part start len (now (message .entry))) flags clock (stateOf control (now (table .entry)) (now (names .entry)) committed staged image hash)) ⌝ }
 {
     let Found::At(r) = lowest_free(control.rows) else {
         return Act {
@@ -57,7 +56,7 @@ fn open_new(
             control,
         };
     };
-    let next = new_slot(k, message, start, len, control, names, committed, staged);
+    let next = new_slot(k, message, start, len, control, names);
     open_row(r, k as u32, flags, 0, clock, next, table)
 }
 
@@ -103,7 +102,7 @@ pub fn open_store(
     committed: &mut [u8],
     staged: &mut [u8],
 ) -> Act
-    requires { ⌜ ((start + len ≤ length (now message)) × (len ≤ nameMost)) × ((control .next < sixteenBits) × ((length (now table) ≡ rowCount * rowWords) × ((length (now names) ≡ slotCount * nameSize) × ((length (now committed) ≡ slotCount * slotSize) × (length (now staged) ≡ slotCount * slotSize))))) ⌝ }
+    requires { ⌜ ((start + len ≤ length (now message)) × (len ≤ nameMost)) × ((control .next < sixteenBits) × ((length (now table) ≡ rowCount * rowWords) × ((length (now names) ≡ slotCount * nameSize) × ((length (now committed) ≡ slotCount * slotSize) × ((length (now staged) ≡ slotCount * slotSize) × FreeZero (storeOf control (now names) (now committed) (now staged))))))) ⌝ }
     ensures { λ o. ⌜ ((image hash answer : List ℕ) → left o (now (table .exit)) (now (names .exit)) (now (committed .exit)) (now (staged .exit)) image hash answer ≡ openStore (part start len (now (message .entry))) flags clock (stateOf control (now (table .entry)) (now (names .entry)) (now (committed .entry)) (now (staged .entry)) image hash)) ⌝ }
 {
     if !store_flags(flags) {
@@ -121,16 +120,5 @@ pub fn open_store(
             control,
         };
     }
-    open_new(
-        start,
-        len,
-        flags,
-        clock,
-        message,
-        control,
-        table,
-        names,
-        committed,
-        staged,
-    )
+    open_new(start, len, flags, clock, message, control, table, names)
 }

@@ -18,7 +18,7 @@ use Rattle.protocol.specs.declared.Request.{Request}
 use Rattle.protocol.specs.Frame.{Reply}
 use Rattle.state.specs.State.{State, Slot, Shape}
 use Rattle.state.specs.Soundness.{slotAt, lentRight, valuesFit, flashFits, rowOk, rowsApart, hasWriter, usedSlot, unusedSlot, slotOk, namesApart, isSound}
-use Rattle.state.specs.Agree.{sound-of-test}
+use Rattle.state.specs.Agree.{sound-of-test, test-of-sound}
 use Rattle.rules.specs.Store.{write}
 use Rattle.rules.specs.Session.{by, onSession}
 use Rattle.rules.specs.Sweep.{swept}
@@ -58,12 +58,12 @@ lengths-fit s h k l = go (eqb (slotAt k s .held) 1) here
     go true e = used-fits (slotAt k s) (hasWriter s k) e
     go false e = unused-fits (slotAt k s) e
 
--- what is lent has the right lengths, also after a sweep
+-- what is lent has the right lengths; a sweep keeps soundness
 pub shape-of : (s : State) → isSound s ≡ true → Shape s
 shape-of s h = sound-of-test s h .shape
 
-pub swept-shape : (t : ℕ) (s x : State) → isSound s ≡ true → x ≡ swept t s → Shape x
-swept-shape t s x h e = subst Shape (sym e) (swept-sound t s (sound-of-test s h) .shape)
+pub swept-test : (t : ℕ) (s x : State) → isSound s ≡ true → x ≡ swept t s → isSound x ≡ true
+swept-test t s x h e = ap isSound e ∙ test-of-sound (swept t s) (swept-sound t s (sound-of-test s h))
 
 -- ---- what a request points to stands in the message
 pub inside-of : (m : List ℕ) (p q : Request) → p ≡ decoded m → p ≡ q → Inside m q

@@ -549,6 +549,10 @@ module _ (s : State) (p : Parts s) where
 pub sound-of-test : (s : State) → isSound s ≡ true → Sound s
 sound-of-test s h = from-parts s (parts s h)
 
+-- a slot that is not used is free
+pub free-of-test : (s : State) → isSound s ≡ true → (k : ℕ) → k < slotCount → slotAt k s .held ≡ 0 → slotAt k s ≡ freeSlot
+free-of-test s h k l z = free-slot s (parts s h) k l z
+
 -- ---- back to the test
 module _ (s : State) (snd : Sound s) where
   pub back-flash : FlashIdle (s .flashGroup)

@@ -44,11 +44,15 @@ pub record State : Type 0 where
   pub next : ℕ
   pub lastSweep : ℕ
 
--- the state that the values by value and the lent lists make: table, names, committed, staged, image, hash
+-- the store that the values by value and the lent lists make: names, committed, staged
+abbrev pub storeOf : Control → List ℕ → List ℕ → List ℕ → Slots
+storeOf v n c g = record { names = n; committed = c; staged = g; slots = v .slots; marks = v .committed; committedLens = v .«committed_len»; stagedLens = v .«staged_len» }
+
+-- the state that they make: table, names, committed, staged, image, hash
 abbrev pub stateOf : Control → List ℕ → List ℕ → List ℕ → List ℕ → List ℕ → List ℕ → State
 stateOf v t n c g i h = record {
   sessions = record { table = t; rows = v .rows };
-  store = record { names = n; committed = c; staged = g; slots = v .slots; marks = v .committed; committedLens = v .«committed_len»; stagedLens = v .«staged_len» };
+  store = storeOf v n c g;
   flashGroup = record { phase = v .phase; image = i; hash = h; imageLen = v .«image_len»; hashLen = v .«hash_len» };
   next = v .next;
   lastSweep = v .«last_sweep»;

@@ -4,6 +4,7 @@ use lib.ListN.{length}
 use Rattle.protocol.specs.Inside.{BlobInside}
 use Rattle.protocol.specs.declared.Blob.{Blob}
 use Rattle.state.specs.State.{stateOf}
+use Rattle.state.specs.Agree.{sound-of-test, free-of-test}
 use Rattle.rules.specs.Open.{openBlob}
 use borrow.Author.Needs.{needs}
 use Rattle.opening.proofs.open.Statement.{statement}
@@ -14,15 +15,17 @@ enum-known-blob c = search needs
 
 open-store-requires : tie.Need-open-store-requires
 open-store-requires c κs =
-    let i = subst (BlobInside (c .before .before .before .before .before .before .before .before .before .before .before .before .before .before .args .message .now)) (c .before .before .before .before .before .blob .given .1) (c .before .before .before .before .before .before .before .before .before .before .before .before .before .before .pre .0) in
-    let p = c .before .before .before .before .before .before .before .before .before .before .before .before .before .before .pre .1 in
-    ((i .ends, i .short), (p .next-small, (p .table-size, (p .names-size, (p .committed-size, p .staged-size)))))
+    let a = c .before .before .before .before .before .before .before .before .before .before .before .before .before .before .args in
+    let i = subst (BlobInside (a .message .now)) (c .before .before .before .before .before .blob .given .1) (c .before .before .before .before .before .before .before .before .before .before .before .before .before .before .pre .0) in
+    let g = c .before .before .before .before .before .before .before .before .before .before .before .before .before .before .pre .1 in
+    let p = sound-of-test (stateOf (a .control) (a .table .now) (a .names .now) (a .committed .now) (a .staged .now) (a .image .now) (a .hash .now)) g .shape in
+    ((i .ends, i .short), (p .next-small, (p .table-size, (p .names-size, (p .committed-size, (p .staged-size, free-of-test (stateOf (a .control) (a .table .now) (a .names .now) (a .committed .now) (a .staged .now) (a .image .now) (a .hash .now)) g))))))
 
 enum-known-blob-2 : tie.Need-enum-known-blob-2
 enum-known-blob-2 c = search needs
 
 open-flash-requires : tie.Need-open-flash-requires
-open-flash-requires c κs = let p = c .before .before .before .before .before .before .before .before .before .before .before .before .before .pre .1 in (p .next-small, (p .table-size, (p .image-size, p .hash-size)))
+open-flash-requires c κs = let a = c .before .before .before .before .before .before .before .before .before .before .before .before .before .args in let p = sound-of-test (stateOf (a .control) (a .table .now) (a .names .now) (a .committed .now) (a .staged .now) (a .image .now) (a .hash .now)) (c .before .before .before .before .before .before .before .before .before .before .before .before .before .pre .1) .shape in (p .next-small, (p .table-size, (p .image-size, p .hash-size)))
 
 enum-told : tie.Need-enum-told
 enum-told c = search needs

@@ -1,81 +1,29 @@
--- `new_slot`: each part of the slot from the step that sets it.
-use lib.ListN.{set}
+-- `new_slot`: the name and the bit that are set; all else stays.
+use mathlib.Core.Path.{ap}
 use native.Mathlib.Omega.{arith}
+use Rattle.laws.specs.Ranges.{part}
 use Rattle.protocol.specs.Sizes.{name-size}
+use Rattle.state.specs.State.{Slots, storeOf, stateOf, inStore}
+use Rattle.opening_steps.specs.Laws.{named-put}
 use borrow.Author.Needs.{needs}
 use Rattle.opening_steps.proofs.new_slot.Statement.{statement}
 use Rattle.opening_steps.proofs.new_slot.Tie as tie
 
 put-name-requires : tie.Need-put-name-requires
-put-name-requires c κs = (c .before .before .before .before .before .pre .1 .1 .0, (c .before .before .before .before .before .pre .0, (omega (arith, name-size, c .before .before .before .before .before .pre .1 .0 .1), c .before .before .before .before .before .pre .1 .0 .0)))
-
-clear-region-requires : tie.Need-clear-region-requires
-clear-region-requires c κs = search needs
-
-clear-region-requires-2 : tie.Need-clear-region-requires-2
-clear-region-requires-2 c κs = search needs
+put-name-requires c κs = let p = c .before .before .before .pre in (p .1 .1, (p .0, (omega (arith, name-size, p .1 .0 .1), p .1 .0 .0)))
 
 set-bit-requires : tie.Need-set-bit-requires
 set-bit-requires c κs = search needs
 
-clear-bit-requires : tie.Need-clear-bit-requires
-clear-bit-requires c κs = search needs
-
-mul-next : tie.Need-mul-next
-mul-next c = search needs
-
-element-write-next : tie.Need-element-write-next
-element-write-next c = search needs
-
-mul-next-2 : tie.Need-mul-next-2
-mul-next-2 c = search needs
-
-element-write-next-2 : tie.Need-element-write-next-2
-element-write-next-2 c = search needs
-
 same-length : tie.Need-same-length
 same-length c = search needs
 
-same-length-2 : tie.Need-same-length-2
-same-length-2 c = search needs
-
-same-length-3 : tie.Need-same-length-3
-same-length-3 c = search needs
-
 returns : tie.Need-returns
 returns c =
-    λ t i h.
-    let a = c .before .before .before .before .before .before .before .before .before .before .before .before .before .before .before .before .before .before .args in
-    λ j. record {
-      sessions = record { table = t; rows = a .control .rows };
-      store = record {
-        names = c .before .before .before .before .before .before .before .before .before .before .before .before .put-name .ensures j;
-        committed = c .before .before .before .before .before .before .before .before .clear-region .ensures j;
-        staged = c .before .before .before .before .clear-region2 .ensures j;
-        slots = c .before .set-bit .ensures j;
-        marks = c .clear-bit .ensures j;
-        committedLens = set (a .control .«committed_len») (a .k) 0;
-        stagedLens = set (a .control .«staged_len») (a .k) 0;
-      };
-      flashGroup = record { phase = a .control .phase; image = i; hash = h; imageLen = a .control .«image_len»; hashLen = a .control .«hash_len» };
-      next = a .control .next;
-      lastSweep = a .control .«last_sweep»;
-    }
+    λ t d g i h.
+    let a = c .before .before .before .before .before .before .before .args in
+    ap (λ (x : Slots). inStore .put x (stateOf (a .control) t (a .names .now) d g i h))
+    (named-put (a .k) (part (a .start) (a .len) (a .message .now)) (storeOf (a .control) (a .names .now) d g) _ _ (c .before .before .before .put-name .ensures) (c .set-bit .ensures))
 
 pub new-slot-spec : {M : Type 1} → statement M
-new-slot-spec =
-    tie.close
-    (tie.spec
-    put-name-requires
-    clear-region-requires
-    clear-region-requires-2
-    set-bit-requires
-    clear-bit-requires
-    mul-next
-    element-write-next
-    mul-next-2
-    element-write-next-2
-    same-length
-    same-length-2
-    same-length-3
-    returns)
+new-slot-spec = tie.close (tie.spec put-name-requires set-bit-requires same-length returns)

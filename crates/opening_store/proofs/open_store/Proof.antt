@@ -31,7 +31,7 @@ open-held-requires : tie.Need-open-held-requires
 open-held-requires c κs =
     let a = c .before .before .before .before .before .before .before .before .before .before .before .before .before .before .before .args in
     let p = c .before .before .before .before .before .before .before .before .before .before .before .before .before .before .before .pre .1 in
-    (found (holds (part (a .start) (a .len) (a .message .now)) (a .names .now) (a .control .slots)) slotCount (c .before .before .before .before .k .given .0 .0) (sym (c .before .before .before .before .before .before .find-name .ensures) ∙ ap optionOf (c .before .before .before .before .k .given .1)) .low, (p .0, (p .1 .0, p .1 .1 .1)))
+    (found (holds (part (a .start) (a .len) (a .message .now)) (a .names .now) (a .control .slots)) slotCount (c .before .before .before .before .k .given .0 .0) (sym (c .before .before .before .before .before .before .find-name .ensures) ∙ ap optionOf (c .before .before .before .before .k .given .1)) .low, (p .0, (p .1 .0, (p .1 .1 .1 .0, p .1 .1 .1 .1 .0))))
 
 same-length : tie.Need-same-length
 same-length c = search needs
@@ -65,7 +65,7 @@ returns-3 c =
     name-absent (part (a .start) (a .len) (a .message .now)) (a .flags) (a .clock) (stateOf (a .control) (a .table .now) (a .names .now) (a .committed .now) (a .staged .now) i h) (sym (c .before .before .before .before .before .before .before .store-flags .ensures) ∙ not-false _ (c .before .before .before .before .before .before .if1 .left)) (sym (c .before .before .before .before .find-name .ensures) ∙ ap optionOf (c .before .before .enum-told .given .1)) (c .if2 .taken)
 
 open-new-requires : tie.Need-open-new-requires
-open-new-requires c κs = search needs
+open-new-requires c κs = let p = c .before .before .before .before .before .before .before .before .before .before .before .before .before .before .before .pre in (p .0, (p .1 .0, (p .1 .1 .0, p .1 .1 .1 .0)))
 
 same-length-6 : tie.Need-same-length-6
 same-length-6 c = search needs
@@ -73,18 +73,12 @@ same-length-6 c = search needs
 same-length-7 : tie.Need-same-length-7
 same-length-7 c = search needs
 
-same-length-8 : tie.Need-same-length-8
-same-length-8 c = search needs
-
-same-length-9 : tie.Need-same-length-9
-same-length-9 c = search needs
-
 returns-4 : tie.Need-returns-4
 returns-4 c =
     λ i h x.
-    let a = c .before .before .before .before .before .before .before .before .before .before .before .before .before .before .before .before .before .before .before .before .before .before .before .before .before .before .args in
-    c .before .before .before .before .before .before .before .before .open-new .ensures i h x
-    ∙ name-new (part (a .start) (a .len) (a .message .now)) (a .flags) (a .clock) (stateOf (a .control) (a .table .now) (a .names .now) (a .committed .now) (a .staged .now) i h) (sym (c .before .before .before .before .before .before .before .before .before .before .before .before .before .before .before .before .before .before .before .before .store-flags .ensures) ∙ not-false _ (c .before .before .before .before .before .before .before .before .before .before .before .before .before .before .before .before .before .before .before .if1 .left)) (sym (c .before .before .before .before .before .before .before .before .before .before .before .before .before .before .before .before .before .find-name .ensures) ∙ ap optionOf (c .before .before .before .before .before .before .before .before .before .before .before .before .before .before .before .enum-told .given .1)) (c .before .before .before .before .before .before .before .before .before .before .before .before .before .if2 .left)
+    let a = c .before .before .before .before .before .before .before .before .before .before .before .before .before .before .before .before .before .before .before .before .args in
+    c .before .before .before .before .open-new .ensures (a .committed .now) (a .staged .now) i h x (c .before .before .before .before .before .before .before .before .before .before .before .before .before .before .before .before .before .before .before .before .pre .1 .1 .1 .1 .1 .1)
+    ∙ name-new (part (a .start) (a .len) (a .message .now)) (a .flags) (a .clock) (stateOf (a .control) (a .table .now) (a .names .now) (a .committed .now) (a .staged .now) i h) (sym (c .before .before .before .before .before .before .before .before .before .before .before .before .before .before .store-flags .ensures) ∙ not-false _ (c .before .before .before .before .before .before .before .before .before .before .before .before .before .if1 .left)) (sym (c .before .before .before .before .before .before .before .before .before .before .before .find-name .ensures) ∙ ap optionOf (c .before .before .before .before .before .before .before .before .before .enum-told .given .1)) (c .before .before .before .before .before .before .before .if2 .left)
 
 pub open-store-spec : {M : Type 1} → statement M
 open-store-spec =
@@ -106,6 +100,4 @@ open-store-spec =
     open-new-requires
     same-length-6
     same-length-7
-    same-length-8
-    same-length-9
     returns-4)
