@@ -49,7 +49,10 @@ fn holds_name(names: &[u8], slots: u32, k: usize, message: &[u8], start: usize, 
     requires { ⌜ (length (now names) ≡ slotCount * nameSize) × ((k < slotCount) × (start + len ≤ length (now message))) ⌝ }
     ensures { λ x. ⌜ x ≡ holds (part start len (now (message .entry))) (now (names .entry)) slots k ⌝ }
 {
-    has(slots, k) & same_name(names, k, message, start, len)
+    if !has(slots, k) {
+        return false;
+    }
+    same_name(names, k, message, start, len)
 }
 
 // The used slot that holds the name.
