@@ -1,16 +1,12 @@
--- Whole blocks, and a search that goes on. Assumes nothing.
-use mathlib.Core.Path.{_≡_, refl, sym, _∙_, ap}
-use mathlib.Core.Bool.{Bool, false}
+-- Whole blocks. Assumes nothing.
+use mathlib.Core.Path.{_≡_, sym, _∙_, ap}
 use mathlib.Core.List.{List, _++_}
-use mathlib.Core.Option.{none}
 use Prim.Native.Nat.{ℕ, _+_, _*_, _-_, _≤_}
-use native.Mathlib.Numerals.{add-one}
 use native.Mathlib.Omega.{arith}
 use lib.ListN.{length, take, drop, replicate, length-replicate}
 use lib.Seq.{sets, take-all, take-take}
 use Rattle.laws.specs.Ranges.{part, block, length-part, sets-append}
 use Rattle.laws.specs.Bytes.{padded, padded-is, padded-length}
-use Rattle.laws.specs.Find.{first}
 
 -- ---- blocks: the code knows the size n of a block as the number m
 module _ (n m : ℕ) (size : n ≡ m) (k : ℕ) (l : List ℕ) where
@@ -40,12 +36,3 @@ module _ (n m : ℕ) (size : n ≡ m) (k : ℕ) (l : List ℕ) where
       ∙ ap (sets l (k * m)) (sym (padded-is m w (rw e h)))
       ∙ ap (λ (i : ℕ). sets l (k * i) (padded i w)) (sym size)
       ∙ ap (sets l (k * n)) (sym (take-all n (padded n w) (omega (arith, padded-length n w))))
-
--- ---- a search in which no number below i passed: it starts with none, and goes on past one that fails
-pub first-start : (f : ℕ → Bool) → first f 0 ≡ none
-unfolding first
-first-start f = refl
-
-pub first-miss : (f : ℕ → Bool) (i : ℕ) → first f i ≡ none → f i ≡ false → first f (i + 1) ≡ none
-unfolding first
-first-miss f i p q = rw (add-one, p, q)

@@ -6,11 +6,12 @@ ghost use lib.ListN.{length, replicate};
 ghost use Rattle.laws.specs.Ranges.{part, block};
 ghost use Rattle.laws.specs.Bytes.{padded};
 ghost use Rattle.laws.specs.Find.{first};
-ghost use Rattle.protocol.specs.Numbers.{rowCount, rowWords, slotCount, nameSize, slotSize};
+ghost use Rattle.protocol.specs.Numbers.{rowCount, slotCount, nameSize, slotSize};
 ghost use Rattle.state.specs.Answers.{optionOf};
 ghost use Rattle.state.specs.Entry.{wordsOf};
 ghost use Rattle.state.specs.State.{stateOf, inBody, slot};
 ghost use Rattle.state.specs.Words.{freeSlot};
+ghost use Rattle.state.specs.Lent.{TableLent, NamesLent, RegionsLent};
 ghost use Rattle.buffers.specs.Lookup.{fits, sought};
 use copying::clear_at;
 use copying::copy_at;
@@ -27,7 +28,7 @@ use state::row::read_row;
 
 // Slot k's region of dst becomes its region of src.
 pub fn copy_region(dst: &mut [u8], src: &[u8], k: usize)
-    requires { ⌜ (length (now dst) ≡ slotCount * slotSize) × ((length (now src) ≡ slotCount * slotSize) × (k < slotCount)) ⌝ }
+    requires { ⌜ RegionsLent (now dst) × (RegionsLent (now src) × (k < slotCount)) ⌝ }
     ensures { λ _. ⌜ now (dst .exit) ≡ block slotSize k .put (block slotSize k .get (now (src .entry))) (now (dst .entry)) ⌝ }
 {
     let at = k * SLOT_SIZE;
@@ -37,7 +38,7 @@ pub fn copy_region(dst: &mut [u8], src: &[u8], k: usize)
 
 // Slot k's region of dst becomes zeros.
 pub fn clear_region(dst: &mut [u8], k: usize)
-    requires { ⌜ (length (now dst) ≡ slotCount * slotSize) × (k < slotCount) ⌝ }
+    requires { ⌜ RegionsLent (now dst) × (k < slotCount) ⌝ }
     ensures { λ _. ⌜ now (dst .exit) ≡ block slotSize k .put (replicate slotSize 0) (now (dst .entry)) ⌝ }
 {
     clear_at(dst, k * SLOT_SIZE, SLOT_SIZE)
@@ -45,7 +46,7 @@ pub fn clear_region(dst: &mut [u8], k: usize)
 
 // Slot k's name becomes zeros.
 pub fn clear_name(names: &mut [u8], k: usize)
-    requires { ⌜ (length (now names) ≡ slotCount * nameSize) × (k < slotCount) ⌝ }
+    requires { ⌜ NamesLent (now names) × (k < slotCount) ⌝ }
     ensures { λ _. ⌜ now (names .exit) ≡ block nameSize k .put (replicate nameSize 0) (now (names .entry)) ⌝ }
 {
     clear_at(names, k * NAME_SIZE, NAME_SIZE)
@@ -53,7 +54,7 @@ pub fn clear_name(names: &mut [u8], k: usize)
 
 // Slot k's name becomes the len bytes that stand in the message from `start` on, padded by zeros.
 pub fn put_name(names: &mut [u8], k: usize, message: &[u8], start: usize, len: usize)
-    requires { ⌜ (length (now names) ≡ slotCount * nameSize) × ((k < slotCount) × ((len ≤ nameSize) × (start + len ≤ length (now message)))) ⌝ }
+    requires { ⌜ NamesLent (now names) × ((k < slotCount) × ((len ≤ nameSize) × (start + len ≤ length (now message)))) ⌝ }
     ensures { λ _. ⌜ now (names .exit) ≡ block nameSize k .put (padded nameSize (part start len (now (message .entry)))) (now (names .entry)) ⌝ }
 {
     let at = k * NAME_SIZE;
@@ -70,7 +71,7 @@ pub fn free_slot(
     committed: &mut [u8],
     staged: &mut [u8],
 ) -> Control
-    requires { ⌜ (k < slotCount) × ((length (now names) ≡ slotCount * nameSize) × ((length (now committed) ≡ slotCount * slotSize) × (length (now staged) ≡ slotCount * slotSize))) ⌝ }
+    requires { ⌜ (k < slotCount) × (NamesLent (now names) × (RegionsLent (now committed) × RegionsLent (now staged))) ⌝ }
     ensures { λ v. ⌜ ((table image hash : List ℕ) → stateOf v table (now (names .exit)) (now (committed .exit)) (now (staged .exit)) image hash ≡ inBody (slot k) .put freeSlot (stateOf control table (now (names .entry)) (now (committed .entry)) (now (staged .entry)) image hash)) ⌝ }
 {
     clear_name(names, k);
@@ -104,7 +105,7 @@ fn fits(e: Entry, wanted: Wanted) -> bool
 
 // Row r is used and the one wanted.
 fn is_sought(table: &[u32], rows: u32, wanted: Wanted, r: usize) -> bool
-    requires { ⌜ (length (now table) ≡ rowCount * rowWords) × (r < rowCount) ⌝ }
+    requires { ⌜ TableLent (now table) × (r < rowCount) ⌝ }
     ensures { λ x. ⌜ x ≡ sought wanted (now (table .entry)) rows r ⌝ }
 {
     has(rows, r) & fits(read_row(table, r), wanted)
@@ -112,7 +113,7 @@ fn is_sought(table: &[u32], rows: u32, wanted: Wanted, r: usize) -> bool
 
 // The first used row that is the one wanted.
 pub fn find_row(table: &[u32], rows: u32, wanted: Wanted) -> Found
-    requires { ⌜ length (now table) ≡ rowCount * rowWords ⌝ }
+    requires { ⌜ TableLent (now table) ⌝ }
     ensures { λ f. ⌜ optionOf f ≡ first (sought wanted (now (table .entry)) rows) rowCount ⌝ }
 {
     let mut r: usize = 0;

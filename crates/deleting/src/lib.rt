@@ -1,12 +1,12 @@
 // Delete.
 ghost use mathlib.Core.Path.{_≡_};
 ghost use mathlib.Core.List.{List};
-ghost use Prim.Native.Nat.{ℕ, _+_, _*_, _≤_};
+ghost use Prim.Native.Nat.{ℕ, _+_, _≤_};
 ghost use lib.ListN.{length};
-ghost use Rattle.protocol.specs.Numbers.{rowCount, rowWords, slotCount, nameSize, slotSize};
 ghost use Rattle.protocol.specs.Inside.{BlobInside};
 ghost use Rattle.protocol.specs.declared.Blob.the-variants.{Store};
 ghost use Rattle.state.specs.State.{stateOf};
+ghost use Rattle.state.specs.Lent.{TableLent, NamesLent, RegionsLent};
 ghost use Rattle.rules.specs.Open.{deleteBlob};
 ghost use Rattle.commands.specs.Left.{left};
 use buffers::Wanted;
@@ -31,7 +31,7 @@ fn delete_store(
     committed: &mut [u8],
     staged: &mut [u8],
 ) -> Act
-    requires { ⌜ (start + len ≤ length (now message)) × ((length (now table) ≡ rowCount * rowWords) × ((length (now names) ≡ slotCount * nameSize) × ((length (now committed) ≡ slotCount * slotSize) × (length (now staged) ≡ slotCount * slotSize)))) ⌝ }
+    requires { ⌜ (start + len ≤ length (now message)) × (TableLent (now table) × (NamesLent (now names) × (RegionsLent (now committed) × RegionsLent (now staged)))) ⌝ }
     ensures { λ o. ⌜ ((image hash answer : List ℕ) → left o (now (table .entry)) (now (names .exit)) (now (committed .exit)) (now (staged .exit)) image hash answer ≡ deleteBlob (Store start len) (now (message .entry)) (stateOf control (now (table .entry)) (now (names .entry)) (now (committed .entry)) (now (staged .entry)) image hash)) ⌝ }
 {
     let Found::At(k) = find_name(names, control.slots, message, start, len) else {
@@ -53,7 +53,7 @@ fn delete_store(
     }
 }
 
-// Delete: base or flash (D5), open session (C0), not held (CB); else the slot is freed.
+// Delete: base or flash (D5), open session (C0), not held (CB); else the slot is freed. A name that is not held has no session, so it is looked up first.
 pub fn delete(
     blob: Blob,
     message: &[u8],
@@ -63,7 +63,7 @@ pub fn delete(
     committed: &mut [u8],
     staged: &mut [u8],
 ) -> Act
-    requires { ⌜ BlobInside (now message) blob × ((length (now table) ≡ rowCount * rowWords) × ((length (now names) ≡ slotCount * nameSize) × ((length (now committed) ≡ slotCount * slotSize) × (length (now staged) ≡ slotCount * slotSize)))) ⌝ }
+    requires { ⌜ BlobInside (now message) blob × (TableLent (now table) × (NamesLent (now names) × (RegionsLent (now committed) × RegionsLent (now staged)))) ⌝ }
     ensures { λ o. ⌜ ((image hash answer : List ℕ) → left o (now (table .entry)) (now (names .exit)) (now (committed .exit)) (now (staged .exit)) image hash answer ≡ deleteBlob blob (now (message .entry)) (stateOf control (now (table .entry)) (now (names .entry)) (now (committed .entry)) (now (staged .entry)) image hash)) ⌝ }
 {
     match blob {

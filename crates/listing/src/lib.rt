@@ -7,9 +7,10 @@ ghost use lib.ListN.{length};
 ghost use Rattle.laws.specs.Ranges.{block};
 ghost use Rattle.laws.specs.Bytes.{text};
 ghost use Rattle.protocol.specs.Names.{flashName};
-ghost use Rattle.protocol.specs.Numbers.{slotCount, nameSize, answerSize, sixteenBits};
+ghost use Rattle.protocol.specs.Numbers.{slotCount, nameSize, sixteenBits};
 ghost use Rattle.protocol.specs.Frame.{reply};
 ghost use Rattle.state.specs.State.{stateOf};
+ghost use Rattle.state.specs.Lent.{NamesLent, AnswerLent};
 ghost use Rattle.rules.specs.Counting.{flashCount};
 ghost use Rattle.rules.specs.Listing.{counted, enumerated};
 ghost use Rattle.commands.specs.Left.{replyOf};
@@ -110,7 +111,7 @@ fn listed_at(index: u32, control: Control) -> Listed
 
 // A name and its NUL become the fields in the answer buffer.
 fn lay(name: &[u8], answer: &mut [u8]) -> Said
-    requires { ⌜ (length (now name) ≤ nameSize) × (length (now answer) ≡ answerSize) ⌝ }
+    requires { ⌜ (length (now name) ≤ nameSize) × AnswerLent (now answer) ⌝ }
     ensures { λ x. ⌜ Answers (reply (now (name .entry) ++ (0 ∷ []))) x (now (answer .entry)) (now (answer .exit)) ⌝ }
 {
     let len = name.len();
@@ -121,7 +122,7 @@ fn lay(name: &[u8], answer: &mut [u8]) -> Said
 
 // Slot k's name: the bytes of its field up to the NUL.
 fn lay_slot(k: usize, names: &[u8], answer: &mut [u8]) -> Said
-    requires { ⌜ (k < slotCount) × ((length (now names) ≡ slotCount * nameSize) × (length (now answer) ≡ answerSize)) ⌝ }
+    requires { ⌜ (k < slotCount) × (NamesLent (now names) × AnswerLent (now answer)) ⌝ }
     ensures { λ x. ⌜ Answers (reply (text (block nameSize k .get (now (names .entry))) ++ (0 ∷ []))) x (now (answer .entry)) (now (answer .exit)) ⌝ }
 {
     let at = k * NAME_SIZE;
@@ -132,7 +133,7 @@ fn lay_slot(k: usize, names: &[u8], answer: &mut [u8]) -> Said
 
 // A flash name.
 fn lay_flash(kind: FlashKind, answer: &mut [u8]) -> Said
-    requires { ⌜ length (now answer) ≡ answerSize ⌝ }
+    requires { ⌜ AnswerLent (now answer) ⌝ }
     ensures { λ x. ⌜ Answers (reply (flashName kind ++ (0 ∷ []))) x (now (answer .entry)) (now (answer .exit)) ⌝ }
 {
     match kind {
@@ -146,7 +147,7 @@ fn lay_flash(kind: FlashKind, answer: &mut [u8]) -> Said
 
 // Enumerate: the listed name with its NUL stands in the answer buffer, or the index is not below the count.
 pub fn enumerate(index: u32, control: Control, names: &[u8], answer: &mut [u8]) -> Said
-    requires { ⌜ (control .committed < sixteenBits) × ((length (now names) ≡ slotCount * nameSize) × (length (now answer) ≡ answerSize)) ⌝ }
+    requires { ⌜ (control .committed < sixteenBits) × (NamesLent (now names) × AnswerLent (now answer)) ⌝ }
     ensures { λ x. ⌜ ((table committed staged image hash : List ℕ) → Answers (enumerated index (stateOf control table (now (names .entry)) committed staged image hash)) x (now (answer .entry)) (now (answer .exit))) ⌝ }
 {
     match listed_at(index, control) {

@@ -1,10 +1,10 @@
 // Open of a flash name, after the sweep.
 ghost use mathlib.Core.Path.{_≡_};
 ghost use mathlib.Core.List.{List};
-ghost use Prim.Native.Nat.{ℕ, _*_, _<_};
-ghost use lib.ListN.{length};
-ghost use Rattle.protocol.specs.Numbers.{rowCount, rowWords, imageSize, hashSize, sixteenBits};
+ghost use Prim.Native.Nat.{ℕ, _<_};
+ghost use Rattle.protocol.specs.Numbers.{sixteenBits};
 ghost use Rattle.state.specs.State.{stateOf, inBody, flash};
+ghost use Rattle.state.specs.Lent.{TableLent, ImageLent, HashLent};
 ghost use Rattle.rules.specs.Open.{openedFlash, openFlash};
 ghost use Rattle.commands.specs.Left.{left};
 use buffers::Wanted;
@@ -27,7 +27,7 @@ use state::values::with_phase;
 
 // Image or hash: its bytes and length go to zero, phase Uploading. The other flash names leave all as it is.
 fn empty_flash(kind: FlashKind, control: Control, image: &mut [u8], hash: &mut [u8]) -> Control
-    requires { ⌜ (length (now image) ≡ imageSize) × (length (now hash) ≡ hashSize) ⌝ }
+    requires { ⌜ ImageLent (now image) × HashLent (now hash) ⌝ }
     ensures { λ v. ⌜ ((table names committed staged : List ℕ) → stateOf v table names committed staged (now (image .exit)) (now (hash .exit)) ≡ inBody flash .put (openedFlash kind (stateOf control table names committed staged (now (image .entry)) (now (hash .entry)) .flashGroup)) (stateOf control table names committed staged (now (image .entry)) (now (hash .entry)))) ⌝ }
 {
     let mut next = with_phase(control, Phase::Uploading);
@@ -58,7 +58,7 @@ pub fn open_flash(
     image: &mut [u8],
     hash: &mut [u8],
 ) -> Act
-    requires { ⌜ (control .next < sixteenBits) × ((length (now table) ≡ rowCount * rowWords) × ((length (now image) ≡ imageSize) × (length (now hash) ≡ hashSize))) ⌝ }
+    requires { ⌜ (control .next < sixteenBits) × (TableLent (now table) × (ImageLent (now image) × HashLent (now hash))) ⌝ }
     ensures { λ o. ⌜ ((names committed staged answer : List ℕ) → left o (now (table .exit)) names committed staged (now (image .exit)) (now (hash .exit)) answer ≡ openFlash kind flags clock (stateOf control (now (table .entry)) names committed staged (now (image .entry)) (now (hash .entry)))) ⌝ }
 {
     if flags != Flags::WRITE.0 {

@@ -1,12 +1,13 @@
 // The steps of Open: the row of a new session, and the slot of a new or a held name.
 ghost use mathlib.Core.Path.{_≡_};
 ghost use mathlib.Core.List.{List};
-ghost use Prim.Native.Nat.{ℕ, _+_, _*_, _<_, _≤_};
+ghost use Prim.Native.Nat.{ℕ, _+_, _<_, _≤_};
 ghost use lib.ListN.{length};
 ghost use Rattle.laws.specs.Ranges.{part};
-ghost use Rattle.protocol.specs.Numbers.{rowCount, rowWords, slotCount, nameSize, slotSize, nameMost, sixteenBits};
+ghost use Rattle.protocol.specs.Numbers.{rowCount, slotCount, nameMost, sixteenBits};
 ghost use Rattle.state.specs.State.{stateOf, inBody, slot};
 ghost use Rattle.state.specs.Soundness.{slotAt};
+ghost use Rattle.state.specs.Lent.{TableLent, NamesLent, RegionsLent};
 ghost use Rattle.rules.specs.Open.{heldSlot};
 ghost use Rattle.commands.specs.Left.{left};
 ghost use Rattle.opening_steps.specs.Steps.{named, rowOpened};
@@ -34,7 +35,7 @@ pub fn open_row(
     control: Control,
     table: &mut [u32],
 ) -> Act
-    requires { ⌜ (r < rowCount) × ((clean < 2) × ((control .next < sixteenBits) × (length (now table) ≡ rowCount * rowWords))) ⌝ }
+    requires { ⌜ (r < rowCount) × ((clean < 2) × ((control .next < sixteenBits) × TableLent (now table))) ⌝ }
     ensures { λ o. ⌜ ((names committed staged image hash answer : List ℕ) → left o (now (table .exit)) names committed staged image hash answer ≡ rowOpened r blob flags clean clock (stateOf control (now (table .entry)) names committed staged image hash)) ⌝ }
 {
     let id = fresh_id(table, control.rows, control.next);
@@ -64,7 +65,7 @@ pub fn new_slot(
     control: Control,
     names: &mut [u8],
 ) -> Control
-    requires { ⌜ (k < slotCount) × (((start + len ≤ length (now message)) × (len ≤ nameMost)) × (length (now names) ≡ slotCount * nameSize)) ⌝ }
+    requires { ⌜ (k < slotCount) × (((start + len ≤ length (now message)) × (len ≤ nameMost)) × NamesLent (now names)) ⌝ }
     ensures { λ v. ⌜ ((table committed staged image hash : List ℕ) → stateOf v table (now (names .exit)) committed staged image hash ≡ inBody (slot k) .put (named (part start len (now (message .entry))) (slotAt k (stateOf control table (now (names .entry)) committed staged image hash))) (stateOf control table (now (names .entry)) committed staged image hash)) ⌝ }
 {
     put_name(names, k, message, start, len);
@@ -81,7 +82,7 @@ pub fn stage_slot(
     committed: &[u8],
     staged: &mut [u8],
 ) -> Control
-    requires { ⌜ (k < slotCount) × ((length (now committed) ≡ slotCount * slotSize) × (length (now staged) ≡ slotCount * slotSize)) ⌝ }
+    requires { ⌜ (k < slotCount) × (RegionsLent (now committed) × RegionsLent (now staged)) ⌝ }
     ensures { λ v. ⌜ ((table names image hash : List ℕ) → stateOf v table names (now (committed .entry)) (now (staged .exit)) image hash ≡ inBody (slot k) .put (heldSlot flags (slotAt k (stateOf control table names (now (committed .entry)) (now (staged .entry)) image hash))) (stateOf control table names (now (committed .entry)) (now (staged .entry)) image hash)) ⌝ }
 {
     if flags != Flags::READ_WRITE.0 {

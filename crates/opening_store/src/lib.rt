@@ -1,11 +1,12 @@
 // Open of a store name, after the sweep.
 ghost use mathlib.Core.Path.{_≡_};
 ghost use mathlib.Core.List.{List};
-ghost use Prim.Native.Nat.{ℕ, _+_, _*_, _<_, _≤_};
+ghost use Prim.Native.Nat.{ℕ, _+_, _<_, _≤_};
 ghost use lib.ListN.{length};
 ghost use Rattle.laws.specs.Ranges.{part};
-ghost use Rattle.protocol.specs.Numbers.{rowCount, rowWords, slotCount, nameSize, slotSize, nameMost, sixteenBits};
+ghost use Rattle.protocol.specs.Numbers.{slotCount, nameMost, sixteenBits};
 ghost use Rattle.state.specs.State.{storeOf, stateOf};
+ghost use Rattle.state.specs.Lent.{TableLent, NamesLent, RegionsLent};
 ghost use Rattle.rules.specs.Open.{rowOn, freeRowIn, freeSlotIn, openNew, openHeld, openStore, storeFlags};
 ghost use Rattle.commands.specs.Left.{left};
 ghost use Rattle.opening_steps.specs.Steps.{FreeZero};
@@ -41,7 +42,7 @@ fn open_new(
     table: &mut [u32],
     names: &mut [u8],
 ) -> Act
-    requires { ⌜ ((start + len ≤ length (now message)) × (len ≤ nameMost)) × ((control .next < sixteenBits) × ((length (now table) ≡ rowCount * rowWords) × (length (now names) ≡ slotCount * nameSize))) ⌝ }
+    requires { ⌜ ((start + len ≤ length (now message)) × (len ≤ nameMost)) × ((control .next < sixteenBits) × (TableLent (now table) × NamesLent (now names))) ⌝ }
     ensures { λ o. ⌜ ((committed staged image hash answer : List ℕ) → FreeZero (storeOf control (now (names .entry)) committed staged) → left o (now (table .exit)) (now (names .exit)) committed staged image hash answer ≡ openNew (freeRowIn (stateOf control (now (table .entry)) (now (names .entry)) committed staged image hash)) (freeSlotIn (stateOf control (now (table .entry)) (now (names .entry)) committed staged image hash)) (part start len (now (message .entry))) flags clock (stateOf control (now (table .entry)) (now (names .entry)) committed staged image hash)) ⌝ }
 {
     let Found::At(r) = lowest_free(control.rows) else {
@@ -70,7 +71,7 @@ fn open_held(
     committed: &[u8],
     staged: &mut [u8],
 ) -> Act
-    requires { ⌜ (k < slotCount) × ((control .next < sixteenBits) × ((length (now table) ≡ rowCount * rowWords) × ((length (now committed) ≡ slotCount * slotSize) × (length (now staged) ≡ slotCount * slotSize)))) ⌝ }
+    requires { ⌜ (k < slotCount) × ((control .next < sixteenBits) × (TableLent (now table) × (RegionsLent (now committed) × RegionsLent (now staged)))) ⌝ }
     ensures { λ o. ⌜ ((names image hash answer : List ℕ) → left o (now (table .exit)) names (now (committed .entry)) (now (staged .exit)) image hash answer ≡ openHeld (rowOn k (stateOf control (now (table .entry)) names (now (committed .entry)) (now (staged .entry)) image hash)) k flags clock (stateOf control (now (table .entry)) names (now (committed .entry)) (now (staged .entry)) image hash)) ⌝ }
 {
     let Found::Nothing = find_row(table, control.rows, Wanted::Blob(k as u32)) else {
@@ -102,7 +103,7 @@ pub fn open_store(
     committed: &mut [u8],
     staged: &mut [u8],
 ) -> Act
-    requires { ⌜ ((start + len ≤ length (now message)) × (len ≤ nameMost)) × ((control .next < sixteenBits) × ((length (now table) ≡ rowCount * rowWords) × ((length (now names) ≡ slotCount * nameSize) × ((length (now committed) ≡ slotCount * slotSize) × ((length (now staged) ≡ slotCount * slotSize) × FreeZero (storeOf control (now names) (now committed) (now staged))))))) ⌝ }
+    requires { ⌜ ((start + len ≤ length (now message)) × (len ≤ nameMost)) × ((control .next < sixteenBits) × (TableLent (now table) × (NamesLent (now names) × (RegionsLent (now committed) × (RegionsLent (now staged) × FreeZero (storeOf control (now names) (now committed) (now staged))))))) ⌝ }
     ensures { λ o. ⌜ ((image hash answer : List ℕ) → left o (now (table .exit)) (now (names .exit)) (now (committed .exit)) (now (staged .exit)) image hash answer ≡ openStore (part start len (now (message .entry))) flags clock (stateOf control (now (table .entry)) (now (names .entry)) (now (committed .entry)) (now (staged .entry)) image hash)) ⌝ }
 {
     if !store_flags(flags) {

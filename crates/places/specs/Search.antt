@@ -11,7 +11,7 @@ use Rattle.laws.specs.Bytes.{same, padded}
 use Rattle.laws.specs.Find.{first}
 use Rattle.laws.specs.Masks.{clear}
 use Rattle.protocol.specs.Numbers.{slotCount, nameSize}
-use Rattle.state.specs.State.{State, inSessions}
+use Rattle.state.specs.State.{State}
 use Rattle.rules.specs.Open.{slotNamed, freeRowIn, freeSlotIn}
 
 -- slot k is used and holds the name n
@@ -21,10 +21,6 @@ holds n names slots k = eqb (bit k slots) 1 && same (block nameSize k .get names
 abbrev pub isNone : Option ℕ → Bool
 isNone none = true
 isNone (some i) = false
-
--- the state with this session table and mask of rows
-abbrev pub inTable : List ℕ → ℕ → State → State
-inTable table rows s = inSessions .put (record { table = table; rows = rows }) s
 
 -- ---- the rules' searches
 pub slot-named : (n : List ℕ) (s : State) → slotNamed n s ≡ first (holds n (s .store .names) (s .store .slots)) slotCount

@@ -5,13 +5,14 @@ ghost use lib.ListN.{length, getD};
 ghost use Rattle.laws.specs.Ranges.{part, block};
 ghost use Rattle.laws.specs.Bytes.{padded, same};
 ghost use Rattle.laws.specs.Find.{first};
-ghost use Rattle.protocol.specs.Numbers.{rowCount, rowWords, slotCount, nameSize, sixteenBits};
+ghost use Rattle.protocol.specs.Numbers.{rowCount, slotCount, nameSize, sixteenBits};
 ghost use Rattle.state.specs.Answers.{optionOf};
-ghost use Rattle.state.specs.State.{State};
+ghost use Rattle.state.specs.State.{State, withRows};
+ghost use Rattle.state.specs.Lent.{TableLent, NamesLent};
 ghost use Rattle.buffers.specs.Lookup.{sought};
 ghost use Rattle.buffers.specs.declared.Wanted.the-variants.{Id};
 ghost use Rattle.rules.specs.Open.{after, freshFrom, flashListed};
-ghost use Rattle.places.specs.Search.{holds, isNone, inTable};
+ghost use Rattle.places.specs.Search.{holds, isNone};
 use buffers::Wanted;
 use buffers::find_row;
 use protocol::FlashKind;
@@ -33,7 +34,7 @@ fn padded_at(message: &[u8], start: usize, len: usize, i: usize) -> u8
 
 // Slot k's name field is the padded name that stands in the message: every byte counts, the zeros behind the name too.
 fn same_name(names: &[u8], k: usize, message: &[u8], start: usize, len: usize) -> bool
-    requires { ⌜ (length (now names) ≡ slotCount * nameSize) × ((k < slotCount) × (start + len ≤ length (now message))) ⌝ }
+    requires { ⌜ NamesLent (now names) × ((k < slotCount) × (start + len ≤ length (now message))) ⌝ }
     ensures { λ x. ⌜ x ≡ same (block nameSize k .get (now (names .entry))) (padded nameSize (part start len (now (message .entry)))) ⌝ }
 {
     let at = k * NAME_SIZE;
@@ -46,7 +47,7 @@ fn same_name(names: &[u8], k: usize, message: &[u8], start: usize, len: usize) -
 
 // Slot k is used and holds the name.
 fn holds_name(names: &[u8], slots: u32, k: usize, message: &[u8], start: usize, len: usize) -> bool
-    requires { ⌜ (length (now names) ≡ slotCount * nameSize) × ((k < slotCount) × (start + len ≤ length (now message))) ⌝ }
+    requires { ⌜ NamesLent (now names) × ((k < slotCount) × (start + len ≤ length (now message))) ⌝ }
     ensures { λ x. ⌜ x ≡ holds (part start len (now (message .entry))) (now (names .entry)) slots k ⌝ }
 {
     if !has(slots, k) {
@@ -57,7 +58,7 @@ fn holds_name(names: &[u8], slots: u32, k: usize, message: &[u8], start: usize, 
 
 // The used slot that holds the name.
 pub fn find_name(names: &[u8], slots: u32, message: &[u8], start: usize, len: usize) -> Found
-    requires { ⌜ (length (now names) ≡ slotCount * nameSize) × (start + len ≤ length (now message)) ⌝ }
+    requires { ⌜ NamesLent (now names) × (start + len ≤ length (now message)) ⌝ }
     ensures { λ f. ⌜ optionOf f ≡ first (holds (part start len (now (message .entry))) (now (names .entry)) slots) slotCount ⌝ }
 {
     let mut k: usize = 0;
@@ -72,7 +73,7 @@ pub fn find_name(names: &[u8], slots: u32, message: &[u8], start: usize, len: us
 
 // No session has the identifier.
 fn is_unused(table: &[u32], rows: u32, id: u32) -> bool
-    requires { ⌜ length (now table) ≡ rowCount * rowWords ⌝ }
+    requires { ⌜ TableLent (now table) ⌝ }
     ensures { λ x. ⌜ x ≡ isNone (first (sought (Id id) (now (table .entry)) rows) rowCount) ⌝ }
 {
     match find_row(table, rows, Wanted::Id(id)) {
@@ -95,8 +96,8 @@ pub fn next_id(id: u32) -> u32
 
 // The first unused identifier from `next` upward.
 pub fn fresh_id(table: &[u32], rows: u32, next: u32) -> u32
-    requires { ⌜ (length (now table) ≡ rowCount * rowWords) × (next < sixteenBits) ⌝ }
-    ensures { λ x. ⌜ ((s : State) → x ≡ freshFrom rowCount next (inTable (now (table .entry)) rows s)) × (x < sixteenBits) ⌝ }
+    requires { ⌜ TableLent (now table) × (next < sixteenBits) ⌝ }
+    ensures { λ x. ⌜ ((s : State) → x ≡ freshFrom rowCount next (withRows rows (now (table .entry)) s)) × (x < sixteenBits) ⌝ }
 {
     let mut id = next;
     let mut i: usize = 0;

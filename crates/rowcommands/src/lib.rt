@@ -1,10 +1,11 @@
 // What the commands on a session's row share: Write's checks, Commit's check, the state bits.
 ghost use mathlib.Core.Path.{_≡_};
 ghost use mathlib.Core.Bool.{cond};
-ghost use Prim.Native.Nat.{_+_, _*_, _≤_, _<_};
+ghost use Prim.Native.Nat.{_+_, _≤_, _<_};
 ghost use lib.ListN.{length};
-ghost use Rattle.protocol.specs.Numbers.{rowCount, rowWords, sixteenBits};
+ghost use Rattle.protocol.specs.Numbers.{rowCount, sixteenBits};
 ghost use Rattle.state.specs.Entry.{wordsOf};
+ghost use Rattle.state.specs.Lent.{TableLent};
 ghost use Rattle.rules.specs.Store.{commitFits, stateBits};
 ghost use Rattle.rowcommands.specs.Write.{written, saidBy, lengthBy, regionBy, tableBy};
 use commands::Said;
@@ -13,7 +14,7 @@ use protocol::BlobState;
 use protocol::Code;
 use state::Status;
 use state::row::Entry;
-use state::row::later;
+use state::row::greater;
 use state::row::write_row;
 
 // What a Write comes to: a refusal with its code, or the length after it.
@@ -63,12 +64,12 @@ pub fn write_region(
         return Written::Refused(Code::TOO_LONG);
     }
     copy_at(region, start + offset as usize, bytes);
-    Written::Length(later(len, end as u32))
+    Written::Length(greater(len, end as u32))
 }
 
 // Row r becomes e, if the Write was accepted.
 pub fn write_row_if(table: &mut [u32], r: usize, e: Entry, w: Written)
-    requires { ⌜ (length (now table) ≡ rowCount * rowWords) × (r < rowCount) ⌝ }
+    requires { ⌜ TableLent (now table) × (r < rowCount) ⌝ }
     ensures { λ _. ⌜ now (table .exit) ≡ tableBy w r (wordsOf e) (now (table .entry)) ⌝ }
 {
     match w {

@@ -4,8 +4,9 @@ ghost use Prim.Native.Nat.{_+_, _≤_};
 ghost use lib.ListN.{length};
 ghost use Rattle.laws.specs.Ranges.{part};
 ghost use Rattle.protocol.specs.Decode.{fieldsAt};
-ghost use Rattle.protocol.specs.Numbers.{answerSize, readMost};
+ghost use Rattle.protocol.specs.Numbers.{readMost};
 ghost use Rattle.protocol.specs.Frame.{reply, framed, answerAfter};
+ghost use Rattle.state.specs.Lent.{AnswerLent};
 ghost use Rattle.commands.specs.Left.{replyOf, fieldsLength};
 use commands::Said;
 use protocol::Code;
@@ -32,7 +33,7 @@ fn seal(sub: u8, len: usize, answer: &mut [u8]) -> usize
 
 // What a command says becomes the response, at the front of the answer buffer; a refusal leaves the buffer as found.
 pub fn finish(sub: u8, said: Said, answer: &mut [u8]) -> Sent
-    requires { ⌜ (length (now answer) ≡ answerSize) × (fieldsLength said ≤ readMost) ⌝ }
+    requires { ⌜ AnswerLent (now answer) × (fieldsLength said ≤ readMost) ⌝ }
     ensures { λ r. ⌜ ((r .code .0 ≡ framed sub (replyOf said (now (answer .entry))) .0) × (r .len ≡ length (framed sub (replyOf said (now (answer .entry))) .1))) × (now (answer .exit) ≡ answerAfter sub (replyOf said (now (answer .entry))) (now (answer .entry))) ⌝ }
 {
     match said {

@@ -5,10 +5,10 @@ ghost use mathlib.Core.List.{List};
 ghost use Prim.Native.Nat.{ℕ};
 ghost use lib.ListN.{length};
 ghost use Rattle.protocol.specs.Decode.{decoded};
-ghost use Rattle.protocol.specs.Numbers.{answerSize};
 ghost use Rattle.protocol.specs.Inside.{BlobInside};
 ghost use Rattle.state.specs.State.{stateOf};
 ghost use Rattle.state.specs.Soundness.{isSound};
+ghost use Rattle.state.specs.Lent.{AnswerLent};
 ghost use Rattle.rules.specs.Respond.{answered};
 ghost use Rattle.rules.specs.Open.{openBlob};
 ghost use Rattle.rules.specs.Sweep.{swept};
@@ -67,7 +67,7 @@ pub fn serve(
     hash: &mut [u8],
     answer: &mut [u8],
 ) -> Act
-    requires { ⌜ (isSound (stateOf control (now table) (now names) (now committed) (now staged) (now image) (now hash)) ≡ true) × ((asked ≡ decoded (now message)) × (length (now answer) ≡ answerSize)) ⌝ }
+    requires { ⌜ (isSound (stateOf control (now table) (now names) (now committed) (now staged) (now image) (now hash)) ≡ true) × ((asked ≡ decoded (now message)) × AnswerLent (now answer)) ⌝ }
     ensures { λ o. ⌜ Serves (o .said) (left o (now (table .exit)) (now (names .exit)) (now (committed .exit)) (now (staged .exit)) (now (image .exit)) (now (hash .exit)) (now (answer .exit))) (answered asked clock (now (message .entry)) (stateOf control (now (table .entry)) (now (names .entry)) (now (committed .entry)) (now (staged .entry)) (now (image .entry)) (now (hash .entry)))) (now (answer .entry)) (now (answer .exit)) ⌝ }
 {
     match asked {

@@ -1,16 +1,15 @@
 // The soundness test's clauses on the rows of the session table.
 ghost use mathlib.Core.Path.{_≡_};
 ghost use mathlib.Core.List.{List};
-ghost use Prim.Native.Nat.{ℕ, _*_, _<_};
+ghost use Prim.Native.Nat.{ℕ, _<_};
 ghost use lib.Dec.{eqb};
-ghost use lib.ListN.{length};
 ghost use Rattle.laws.specs.All.{all, pairs};
 ghost use Rattle.laws.specs.Bytes.{zeros};
-ghost use Rattle.protocol.specs.Numbers.{rowCount, rowWords};
-ghost use Rattle.state.specs.State.{State, Slot, stateOf};
+ghost use Rattle.protocol.specs.Numbers.{rowCount};
+ghost use Rattle.state.specs.State.{State, Slot, stateOf, withRows};
 ghost use Rattle.state.specs.Entry.{wordsOf};
 ghost use Rattle.state.specs.Soundness.{storeRow, jobFits, flashRow, usedRow, rowOk, rowsApart, writesSlot, hasWriter};
-ghost use Rattle.sound_rows.specs.Rows.{withRows};
+ghost use Rattle.state.specs.Lent.{TableLent};
 use protocol::Flags;
 use protocol::FlashKind;
 use state::Control;
@@ -84,7 +83,7 @@ fn zero_row(e: Entry) -> bool
 
 // Row r is right, used or not.
 fn row_ok(control: Control, table: &[u32], r: usize) -> bool
-    requires { ⌜ (length (now table) ≡ rowCount * rowWords) × (r < rowCount) ⌝ }
+    requires { ⌜ TableLent (now table) × (r < rowCount) ⌝ }
     ensures { λ x. ⌜ ((n c g i h : List ℕ) → x ≡ rowOk (stateOf control (now (table .entry)) n c g i h) r) ⌝ }
 {
     let e = read_row(table, r);
@@ -96,7 +95,7 @@ fn row_ok(control: Control, table: &[u32], r: usize) -> bool
 
 // Every row is right.
 pub fn rows_ok(control: Control, table: &[u32]) -> bool
-    requires { ⌜ length (now table) ≡ rowCount * rowWords ⌝ }
+    requires { ⌜ TableLent (now table) ⌝ }
     ensures { λ x. ⌜ ((n c g i h : List ℕ) → x ≡ all (rowOk (stateOf control (now (table .entry)) n c g i h)) rowCount) ⌝ }
 {
     let mut ok = true;
@@ -108,7 +107,7 @@ pub fn rows_ok(control: Control, table: &[u32]) -> bool
 
 // Rows i and j are not used both, or have different identifiers and different blobs and are not both flash.
 fn rows_apart(rows: u32, table: &[u32], i: usize, j: usize) -> bool
-    requires { ⌜ (length (now table) ≡ rowCount * rowWords) × ((i < rowCount) × (j < rowCount)) ⌝ }
+    requires { ⌜ TableLent (now table) × ((i < rowCount) × (j < rowCount)) ⌝ }
     ensures { λ x. ⌜ ((s : State) → x ≡ rowsApart (withRows rows (now (table .entry)) s) i j) ⌝ }
 {
     let a = read_row(table, i);
@@ -120,7 +119,7 @@ fn rows_apart(rows: u32, table: &[u32], i: usize, j: usize) -> bool
 
 // Row i and each row before it.
 fn apart_from_lower(rows: u32, table: &[u32], i: usize) -> bool
-    requires { ⌜ (length (now table) ≡ rowCount * rowWords) × (i < rowCount) ⌝ }
+    requires { ⌜ TableLent (now table) × (i < rowCount) ⌝ }
     ensures { λ x. ⌜ ((s : State) → x ≡ all (rowsApart (withRows rows (now (table .entry)) s) i) i) ⌝ }
 {
     if !has(rows, i) {
@@ -135,7 +134,7 @@ fn apart_from_lower(rows: u32, table: &[u32], i: usize) -> bool
 
 // No two rows clash.
 pub fn all_apart(rows: u32, table: &[u32]) -> bool
-    requires { ⌜ length (now table) ≡ rowCount * rowWords ⌝ }
+    requires { ⌜ TableLent (now table) ⌝ }
     ensures { λ x. ⌜ ((s : State) → x ≡ pairs (rowsApart (withRows rows (now (table .entry)) s)) rowCount) ⌝ }
 {
     let mut ok = true;
@@ -147,7 +146,7 @@ pub fn all_apart(rows: u32, table: &[u32]) -> bool
 
 // Row r is a writing row of slot k.
 fn writes_slot(rows: u32, table: &[u32], k: u32, r: usize) -> bool
-    requires { ⌜ (length (now table) ≡ rowCount * rowWords) × (r < rowCount) ⌝ }
+    requires { ⌜ TableLent (now table) × (r < rowCount) ⌝ }
     ensures { λ x. ⌜ ((s : State) → x ≡ writesSlot (withRows rows (now (table .entry)) s) k r) ⌝ }
 {
     let e = read_row(table, r);
@@ -156,7 +155,7 @@ fn writes_slot(rows: u32, table: &[u32], k: u32, r: usize) -> bool
 
 // Slot k has a writing row.
 pub fn has_writer(rows: u32, table: &[u32], k: u32) -> bool
-    requires { ⌜ length (now table) ≡ rowCount * rowWords ⌝ }
+    requires { ⌜ TableLent (now table) ⌝ }
     ensures { λ x. ⌜ ((s : State) → x ≡ hasWriter (withRows rows (now (table .entry)) s) k) ⌝ }
 {
     let mut ok = true;

@@ -6,10 +6,11 @@ ghost use lib.ListN.{length};
 ghost use Rattle.laws.specs.All.{all, pairs};
 ghost use Rattle.laws.specs.Bytes.{zeros, same};
 ghost use Rattle.laws.specs.Ranges.{part, block};
-ghost use Rattle.protocol.specs.Numbers.{rowCount, rowWords, slotCount, nameSize, slotSize};
+ghost use Rattle.protocol.specs.Numbers.{slotCount, nameSize, slotSize};
 ghost use Rattle.protocol.specs.Names.{storeField};
 ghost use Rattle.state.specs.State.{State, Slot, stateOf};
 ghost use Rattle.state.specs.Soundness.{usedSlot, unusedSlot, slotOk, namesApart};
+ghost use Rattle.state.specs.Lent.{TableLent, NamesLent, RegionsLent};
 ghost use Rattle.sound_slots.specs.Slots.{withNames, filled};
 use naming::first_zero;
 use naming::same_bytes;
@@ -87,7 +88,7 @@ fn used_slot(
     staged_len: u32,
     writer: bool,
 ) -> bool
-    requires { ⌜ (length (now names) ≡ slotCount * nameSize) × (k < slotCount) ⌝ }
+    requires { ⌜ NamesLent (now names) × (k < slotCount) ⌝ }
     ensures { λ x. ⌜ ((b : Slot) → x ≡ usedSlot (filled (block nameSize k .get (now (names .entry))) (b .committedBytes) (b .stagedBytes) mark «committed_len» «staged_len» b) writer) ⌝ }
 {
     let at = k * NAME_SIZE;
@@ -107,7 +108,7 @@ fn unused_slot(
     committed_len: u32,
     staged_len: u32,
 ) -> bool
-    requires { ⌜ (length (now names) ≡ slotCount * nameSize) × ((length (now committed) ≡ slotCount * slotSize) × ((length (now staged) ≡ slotCount * slotSize) × (k < slotCount))) ⌝ }
+    requires { ⌜ NamesLent (now names) × (RegionsLent (now committed) × (RegionsLent (now staged) × (k < slotCount))) ⌝ }
     ensures { λ x. ⌜ ((b : Slot) → x ≡ unusedSlot (filled (block nameSize k .get (now (names .entry))) (block slotSize k .get (now (committed .entry))) (block slotSize k .get (now (staged .entry))) mark «committed_len» «staged_len» b)) ⌝ }
 {
     let at = k * SLOT_SIZE;
@@ -125,7 +126,7 @@ fn slot_ok(
     staged: &[u8],
     k: usize,
 ) -> bool
-    requires { ⌜ (length (now table) ≡ rowCount * rowWords) × ((length (now names) ≡ slotCount * nameSize) × ((length (now committed) ≡ slotCount * slotSize) × ((length (now staged) ≡ slotCount * slotSize) × (k < slotCount)))) ⌝ }
+    requires { ⌜ TableLent (now table) × (NamesLent (now names) × (RegionsLent (now committed) × (RegionsLent (now staged) × (k < slotCount)))) ⌝ }
     ensures { λ x. ⌜ ((i h : List ℕ) → x ≡ slotOk (stateOf control (now (table .entry)) (now (names .entry)) (now (committed .entry)) (now (staged .entry)) i h) k) ⌝ }
 {
     let committed_lens = control.committed_len;
@@ -148,7 +149,7 @@ pub fn slots_ok(
     committed: &[u8],
     staged: &[u8],
 ) -> bool
-    requires { ⌜ (length (now table) ≡ rowCount * rowWords) × ((length (now names) ≡ slotCount * nameSize) × ((length (now committed) ≡ slotCount * slotSize) × (length (now staged) ≡ slotCount * slotSize))) ⌝ }
+    requires { ⌜ TableLent (now table) × (NamesLent (now names) × (RegionsLent (now committed) × RegionsLent (now staged))) ⌝ }
     ensures { λ x. ⌜ ((i h : List ℕ) → x ≡ all (slotOk (stateOf control (now (table .entry)) (now (names .entry)) (now (committed .entry)) (now (staged .entry)) i h)) slotCount) ⌝ }
 {
     let mut ok = true;
@@ -160,7 +161,7 @@ pub fn slots_ok(
 
 // Slots k and l are not used both, or have different names.
 fn names_apart(slots: u32, names: &[u8], k: usize, l: usize) -> bool
-    requires { ⌜ (length (now names) ≡ slotCount * nameSize) × ((k < slotCount) × (l < slotCount)) ⌝ }
+    requires { ⌜ NamesLent (now names) × ((k < slotCount) × (l < slotCount)) ⌝ }
     ensures { λ x. ⌜ ((s : State) → x ≡ namesApart (withNames slots (now (names .entry)) s) k l) ⌝ }
 {
     let same = same_part(names, k * NAME_SIZE, l * NAME_SIZE, NAME_SIZE);
@@ -169,7 +170,7 @@ fn names_apart(slots: u32, names: &[u8], k: usize, l: usize) -> bool
 
 // Slot k and each slot before it.
 fn apart_from_lower(slots: u32, names: &[u8], k: usize) -> bool
-    requires { ⌜ (length (now names) ≡ slotCount * nameSize) × (k < slotCount) ⌝ }
+    requires { ⌜ NamesLent (now names) × (k < slotCount) ⌝ }
     ensures { λ x. ⌜ ((s : State) → x ≡ all (namesApart (withNames slots (now (names .entry)) s) k) k) ⌝ }
 {
     if !has(slots, k) {
@@ -184,7 +185,7 @@ fn apart_from_lower(slots: u32, names: &[u8], k: usize) -> bool
 
 // No two used slots have one name.
 pub fn all_names_apart(slots: u32, names: &[u8]) -> bool
-    requires { ⌜ length (now names) ≡ slotCount * nameSize ⌝ }
+    requires { ⌜ NamesLent (now names) ⌝ }
     ensures { λ x. ⌜ ((s : State) → x ≡ pairs (namesApart (withNames slots (now (names .entry)) s)) slotCount) ⌝ }
 {
     let mut ok = true;

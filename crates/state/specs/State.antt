@@ -100,6 +100,10 @@ InRange flash = Unit {0}
 abbrev pub inSessions : Lens State Rows
 inSessions = record { get = λ (s : State). s .sessions; put = λ (x : Rows) (s : State). record { sessions = x; store = s .store; flashGroup = s .flashGroup; next = s .next; lastSweep = s .lastSweep } }
 
+-- the state with this mask of rows and this session table
+abbrev pub withRows : ℕ → List ℕ → State → State
+withRows m t s = inSessions .put (record { table = t; rows = m }) s
+
 abbrev pub inStore : Lens State Slots
 inStore = record { get = λ (s : State). s .store; put = λ (x : Slots) (s : State). record { sessions = s .sessions; store = x; flashGroup = s .flashGroup; next = s .next; lastSweep = s .lastSweep } }
 

@@ -2,12 +2,12 @@
 ghost use mathlib.Core.Path.{_≡_};
 ghost use Prim.Native.Nat.{_*_, _<_, max};
 ghost use lib.Dec.{eqb};
-ghost use lib.ListN.{length};
 ghost use Rattle.laws.specs.Ranges.{block};
 ghost use Rattle.protocol.specs.Names.{kindOf};
 ghost use Rattle.protocol.specs.Numbers.{rowCount, rowWords, statusUnit};
 ghost use Rattle.state.specs.Words.{flagsIn, statusIn, cleanIn, writingIn, wordWith, freeRow};
 ghost use Rattle.state.specs.Entry.{wordsOf, lifted, statusSet, cleanSet};
+ghost use Rattle.state.specs.Lent.{TableLent};
 use crate::CLEAN_UNIT;
 use crate::ROW_WORDS;
 use crate::STATUS_UNIT;
@@ -65,7 +65,7 @@ impl Entry {
             id: self.id,
             blob: self.blob,
             word: self.word,
-            stamp: later(self.stamp, clock),
+            stamp: greater(self.stamp, clock),
         }
     }
 
@@ -104,8 +104,8 @@ pub fn word_with(flags: u32, status: u32, clean: u32) -> u32
     flags + status * STATUS_UNIT + clean * CLEAN_UNIT
 }
 
-// The later of two clocks.
-pub fn later(a: u32, b: u32) -> u32
+// The greater of two numbers.
+pub fn greater(a: u32, b: u32) -> u32
     ensures { λ x. ⌜ x ≡ max a b ⌝ }
 {
     if a < b { b } else { a }
@@ -132,7 +132,7 @@ pub fn kind_of(blob: u32) -> FlashKind
 
 // Row r of the table.
 pub fn read_row(table: &[u32], r: usize) -> Entry
-    requires { ⌜ (length (now table) ≡ rowCount * rowWords) × (r < rowCount) ⌝ }
+    requires { ⌜ TableLent (now table) × (r < rowCount) ⌝ }
     ensures { λ e. ⌜ block rowWords r .get (now (table .entry)) ≡ wordsOf e ⌝ }
 {
     let at = r * ROW_WORDS;
@@ -146,7 +146,7 @@ pub fn read_row(table: &[u32], r: usize) -> Entry
 
 // Row r of the table becomes e.
 pub fn write_row(table: &mut [u32], r: usize, e: Entry)
-    requires { ⌜ (length (now table) ≡ rowCount * rowWords) × (r < rowCount) ⌝ }
+    requires { ⌜ TableLent (now table) × (r < rowCount) ⌝ }
     ensures { λ _. ⌜ now (table .exit) ≡ block rowWords r .put (wordsOf e) (now (table .entry)) ⌝ }
 {
     let at = r * ROW_WORDS;
@@ -158,7 +158,7 @@ pub fn write_row(table: &mut [u32], r: usize, e: Entry)
 
 // Row r of the table becomes that of an unused row.
 pub fn clear_row(table: &mut [u32], r: usize)
-    requires { ⌜ (length (now table) ≡ rowCount * rowWords) × (r < rowCount) ⌝ }
+    requires { ⌜ TableLent (now table) × (r < rowCount) ⌝ }
     ensures { λ _. ⌜ now (table .exit) ≡ block rowWords r .put (freeRow .words) (now (table .entry)) ⌝ }
 {
     write_row(table, r, Entry::FREE)

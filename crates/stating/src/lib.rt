@@ -1,13 +1,14 @@
 // Stat.
 ghost use mathlib.Core.Path.{_≡_};
 ghost use mathlib.Core.List.{List};
-ghost use Prim.Native.Nat.{ℕ, _+_, _*_, _<_, _≤_};
+ghost use Prim.Native.Nat.{ℕ, _+_, _<_, _≤_};
 ghost use lib.ListN.{length};
-ghost use Rattle.protocol.specs.Numbers.{rowCount, rowWords, slotCount, nameSize};
+ghost use Rattle.protocol.specs.Numbers.{rowCount};
 ghost use Rattle.protocol.specs.Frame.{reply};
 ghost use Rattle.protocol.specs.Inside.{BlobInside};
 ghost use Rattle.protocol.specs.declared.Blob.the-variants.{Store, Flash};
 ghost use Rattle.state.specs.State.{stateOf};
+ghost use Rattle.state.specs.Lent.{TableLent, NamesLent};
 ghost use Rattle.rules.specs.Session.{statRow};
 ghost use Rattle.rules.specs.Open.{statBlob};
 ghost use Rattle.commands.specs.Left.{replyOf};
@@ -31,7 +32,7 @@ use store::seen_length;
 
 // What SessionStat says of row r: the session's state bits, and the size of its view.
 fn stat_row(control: Control, table: &[u32], r: usize) -> Said
-    requires { ⌜ (r < rowCount) × (length (now table) ≡ rowCount * rowWords) ⌝ }
+    requires { ⌜ (r < rowCount) × TableLent (now table) ⌝ }
     ensures { λ x. ⌜ ((names committed staged image hash answer : List ℕ) → replyOf x answer ≡ reply (statRow r (stateOf control (now (table .entry)) names committed staged image hash))) ⌝ }
 {
     let e = read_row(table, r);
@@ -57,7 +58,7 @@ fn stat_store(
     table: &[u32],
     names: &[u8],
 ) -> Said
-    requires { ⌜ (start + len ≤ length (now message)) × ((length (now table) ≡ rowCount * rowWords) × (length (now names) ≡ slotCount * nameSize)) ⌝ }
+    requires { ⌜ (start + len ≤ length (now message)) × (TableLent (now table) × NamesLent (now names)) ⌝ }
     ensures { λ x. ⌜ ((committed staged image hash answer : List ℕ) → replyOf x answer ≡ statBlob (Store start len) (now (message .entry)) (stateOf control (now (table .entry)) (now (names .entry)) committed staged image hash)) ⌝ }
 {
     let Found::At(k) = find_name(names, control.slots, message, start, len) else {
@@ -74,7 +75,7 @@ fn stat_store(
 
 // Stat of a flash name, if it is listed.
 fn stat_flash(kind: FlashKind, control: Control, table: &[u32]) -> Said
-    requires { ⌜ length (now table) ≡ rowCount * rowWords ⌝ }
+    requires { ⌜ TableLent (now table) ⌝ }
     ensures { λ x. ⌜ ((message names committed staged image hash answer : List ℕ) → replyOf x answer ≡ statBlob (Flash kind) message (stateOf control (now (table .entry)) names committed staged image hash)) ⌝ }
 {
     let phase = control.phase;
@@ -92,7 +93,7 @@ fn stat_flash(kind: FlashKind, control: Control, table: &[u32]) -> Said
 
 // Stat: by what the name names; the base has zeros. No stamp changes.
 pub fn stat(blob: Blob, message: &[u8], control: Control, table: &[u32], names: &[u8]) -> Said
-    requires { ⌜ BlobInside (now message) blob × ((length (now table) ≡ rowCount * rowWords) × (length (now names) ≡ slotCount * nameSize)) ⌝ }
+    requires { ⌜ BlobInside (now message) blob × (TableLent (now table) × NamesLent (now names)) ⌝ }
     ensures { λ x. ⌜ ((committed staged image hash answer : List ℕ) → replyOf x answer ≡ statBlob blob (now (message .entry)) (stateOf control (now (table .entry)) (now (names .entry)) committed staged image hash)) ⌝ }
 {
     match blob {

@@ -7,7 +7,7 @@ ghost use Rattle.protocol.specs.Numbers.{rowCount, sweepEvery, sessionLife, run
 ghost use Rattle.state.specs.State.{stateOf};
 ghost use Rattle.state.specs.Words.{statusIn};
 ghost use Rattle.rules.specs.Sweep.{sweepRow, swept};
-ghost use Rattle.rowcommands.specs.Lent.{TableLent, NamesLent, RegionsLent, ImageLent, HashLent};
+ghost use Rattle.state.specs.Lent.{TableLent, NamesLent, RegionsLent, ImageLent, HashLent};
 use state::Control;
 use state::ROWS;
 use state::SLOTS;

@@ -4,10 +4,9 @@ use mathlib.Core.Option.{none}
 use Prim.Native.Nat.{_-_, _≤_, _*_}
 use native.Mathlib.Omega.{arith}
 use lib.ListN.{length}
-use Rattle.laws.specs.Find.{first, first-at, missed}
+use Rattle.laws.specs.Find.{first, first-at, missed, first-start, first-miss}
 use Rattle.protocol.specs.Numbers.{rowCount, rowWords}
 use Rattle.buffers.specs.Lookup.{sought}
-use Rattle.buffers.specs.Laws.{first-start, first-miss}
 use borrow.Author.Needs.{needs}
 use Rattle.buffers.proofs.find_row.Statement.{statement}
 use Rattle.buffers.proofs.find_row.Tie as tie

@@ -4,9 +4,8 @@ use mathlib.Core.Option.{none}
 use Prim.Native.Nat.{_-_, _≤_}
 use native.Mathlib.Omega.{arith}
 use Rattle.laws.specs.Ranges.{part}
-use Rattle.laws.specs.Find.{first, first-at, missed}
+use Rattle.laws.specs.Find.{first, first-at, missed, first-start, first-miss}
 use Rattle.protocol.specs.Numbers.{slotCount}
-use Rattle.buffers.specs.Laws.{first-start, first-miss}
 use Rattle.places.specs.Search.{holds}
 use borrow.Author.Needs.{needs}
 use Rattle.places.proofs.find_name.Statement.{statement}

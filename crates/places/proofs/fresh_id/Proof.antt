@@ -4,9 +4,8 @@ use native.Mathlib.Omega.{arith}
 use Prim.Native.Nat.{ℕ, _≤_, _<_, _-_, _+_, _*_}
 use lib.ListN.{length}
 use Rattle.protocol.specs.Numbers.{rowCount, rowWords, sixteenBits}
-use Rattle.state.specs.State.{State}
+use Rattle.state.specs.State.{State, withRows}
 use Rattle.rules.specs.Open.{freshFrom}
-use Rattle.places.specs.Search.{inTable}
 use Rattle.places.specs.Laws.{fresh-stop, fresh-step, fresh-last}
 use borrow.Author.Needs.{needs}
 use Rattle.places.proofs.fresh_id.Statement.{statement}
@@ -14,7 +13,7 @@ use Rattle.places.proofs.fresh_id.Tie as tie
 
 abbrev Inv-loop : tie.InvT-loop
 Inv-loop table rows next id₀ i₀ id i =
-    (i ≤ rowCount) × (((s : State) → freshFrom rowCount next (inTable table rows s) ≡ freshFrom (rowCount - i) id (inTable table rows s)) × ((id < sixteenBits) × (length table ≡ rowCount * rowWords)))
+    (i ≤ rowCount) × (((s : State) → freshFrom rowCount next (withRows rows table s) ≡ freshFrom (rowCount - i) id (withRows rows table s)) × ((id < sixteenBits) × (length table ≡ rowCount * rowWords)))
 
 abbrev μ-loop : tie.MeasureT-loop
 μ-loop table rows next id₀ i₀ id i = rowCount - i
@@ -31,7 +30,7 @@ returns c =
     let l = c .before .before .before .loop in
     let i = l .i in (
       λ (s : State).
-          sym (l .inv .1 .0 s ∙ fresh-stop (inTable (a .table .now) (a .rows) s) (rowCount - i) (rowCount - (i + 1)) (l .id) (omega arith) (sym (c .before .is-unused .ensures) ∙ c .if1 .taken)),
+          sym (l .inv .1 .0 s ∙ fresh-stop (withRows (a .rows) (a .table .now) s) (rowCount - i) (rowCount - (i + 1)) (l .id) (omega arith) (sym (c .before .is-unused .ensures) ∙ c .if1 .taken)),
       l .inv .1 .1 .0,
     )
 
@@ -53,8 +52,8 @@ loop-again c =
       (
         λ (s : State).
             l .inv .1 .0 s
-            ∙ fresh-step (inTable (a .table .now) (a .rows) s) (rowCount - i) (rowCount - (i + 1)) (l .id) (omega arith) (sym (c .before .before .is-unused .ensures) ∙ c .before .if1 .left)
-            ∙ ap (λ (x : ℕ). freshFrom (rowCount - (i + 1)) x (inTable (a .table .now) (a .rows) s)) (sym (c .next-id .ensures .0)),
+            ∙ fresh-step (withRows (a .rows) (a .table .now) s) (rowCount - i) (rowCount - (i + 1)) (l .id) (omega arith) (sym (c .before .before .is-unused .ensures) ∙ c .before .if1 .left)
+            ∙ ap (λ (x : ℕ). freshFrom (rowCount - (i + 1)) x (withRows (a .rows) (a .table .now) s)) (sym (c .next-id .ensures .0)),
         search needs,
       ),
     )
@@ -64,7 +63,7 @@ returns-2 c =
     let a = c .before .before .before .args in
     let l = c .before .loop in
     let e : rowCount - l .i ≡ 0 = omega arith in
-    (λ (s : State). sym (l .inv .1 .0 s ∙ fresh-last (inTable (a .table .now) (a .rows) s) (rowCount - l .i) (l .id) e), l .inv .1 .1 .0)
+    (λ (s : State). sym (l .inv .1 .0 s ∙ fresh-last (withRows (a .rows) (a .table .now) s) (rowCount - l .i) (l .id) e), l .inv .1 .1 .0)
 
 pub fresh-id-spec : {M : Type 1} → statement M
 fresh-id-spec =

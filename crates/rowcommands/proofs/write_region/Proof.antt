@@ -20,17 +20,17 @@ add-copy-at c = search needs
 copy-at-requires : tie.Need-copy-at-requires
 copy-at-requires c κs = search needs
 
-cast-later : tie.Need-cast-later
-cast-later c = search needs
+cast-greater : tie.Need-cast-greater
+cast-greater c = search needs
 
-later-requires : tie.Need-later-requires
-later-requires c κs = search needs
+greater-requires : tie.Need-greater-requires
+greater-requires c κs = search needs
 
 same-length : tie.Need-same-length
 same-length c = search needs
 
 returns-3 : tie.Need-returns-3
-returns-3 c = (rw (le-leb _ _ (c .before .before .before .before .before .before .if1 .left), le-leb _ _ (c .before .before .before .before .before .if2 .left), c .later .ensures), c .before .before .before .copy-at .ensures)
+returns-3 c = (rw (le-leb _ _ (c .before .before .before .before .before .before .if1 .left), le-leb _ _ (c .before .before .before .before .before .if2 .left), c .greater .ensures), c .before .before .before .copy-at .ensures)
 
 pub write-region-spec : {M : Type 1} → statement M
 write-region-spec =
@@ -41,7 +41,7 @@ write-region-spec =
     returns-2
     add-copy-at
     copy-at-requires
-    cast-later
-    later-requires
+    cast-greater
+    greater-requires
     same-length
     returns-3)

@@ -3,8 +3,7 @@ use native.Mathlib.Omega.{arith}
 use mathlib.Core.Path.{_≡_}
 use Prim.Native.Nat.{_≤_, _-_}
 use Rattle.laws.specs.All.{pairs, pairs-start, pairs-row, pairs-end}
-use Rattle.state.specs.State.{State}
-use Rattle.sound_rows.specs.Rows.{withRows}
+use Rattle.state.specs.State.{State, withRows}
 use Rattle.state.specs.Soundness.{rowsApart}
 use Rattle.sound_rows.proofs.all_apart.Statement.{statement}
 use Rattle.sound_rows.proofs.all_apart.Tie as tie

@@ -3,8 +3,7 @@ use native.Mathlib.Omega.{arith}
 use mathlib.Core.Path.{_≡_, ap}
 use Prim.Native.Nat.{ℕ, _≤_, _-_}
 use Rattle.laws.specs.All.{all, all-start, all-step, all-end}
-use Rattle.state.specs.State.{State}
-use Rattle.sound_rows.specs.Rows.{withRows}
+use Rattle.state.specs.State.{State, withRows}
 use mathlib.Core.Bool.{not}
 use Rattle.state.specs.Soundness.{writesSlot, hasWriter}
 use Rattle.sound_rows.proofs.has_writer.Statement.{statement}

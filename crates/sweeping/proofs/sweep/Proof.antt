@@ -7,7 +7,7 @@ use borrow.Author.Tests.{not-true, not-false}
 use Rattle.protocol.specs.Numbers.{rowCount}
 use Rattle.state.specs.State.{stateOf}
 use Rattle.rules.specs.Sweep.{sweepRows}
-use Rattle.rowcommands.specs.Lent.{TableLent, NamesLent, RegionsLent, ImageLent, HashLent}
+use Rattle.state.specs.Lent.{TableLent, NamesLent, RegionsLent, ImageLent, HashLent}
 use Rattle.sweeping.proofs.Laws.{none-swept, one-more, not-due, all-swept}
 use Rattle.sweeping.proofs.sweep.Statement.{statement}
 use Rattle.sweeping.proofs.sweep.Tie as tie
