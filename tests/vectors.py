@@ -1,7 +1,7 @@
 #!/usr/bin/env python3
-"""Messages for the program crates/vectors and what it must print, worked out here from document 01 alone.
+"""Messages for the program crates/request_vectors and what it must print, worked out here from document 01 alone.
 
-vectors.py --write   writes crates/vectors/stdin and crates/vectors/stdout
+vectors.py --write   writes crates/request_vectors/stdin and crates/request_vectors/stdout
 vectors.py --check   fails unless both are what this script makes
 
 The CRC is Python's own (binascii.crc_hqx), so that table and rule are compared with another implementation."""

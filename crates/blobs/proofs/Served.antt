@@ -12,9 +12,9 @@ use Rattle.protocol.specs.Frame.{Reply, refused, done, reply, Answer, framed, l
 use Rattle.protocol.specs.declared.Request.{Request}
 use Rattle.state.specs.State.{State}
 use Rattle.state.specs.Soundness.{isSound}
-use Rattle.rules.specs.Store.{outcome}
+use Rattle.rules.specs.Command.{endJob}
 use Rattle.rules.specs.Session.{job, onSession}
-use Rattle.rules.specs.Respond.{Outcome, outcomeOf, unsound, answered, respond, silent, jobOutcome, Served, servedWith, served}
+use Rattle.rules.specs.Respond.{Effect, effectOf, unsound, answered, respond, silent, jobOutcome, Served, servedWith, served}
 use Rattle.rules.specs.Laws.{respond-is, job-is}
 
 -- the answer buffer has another length
@@ -32,7 +32,7 @@ module _ (t : ℕ) (m : List ℕ) (s : State) (a : List ℕ) (h : length a ≡ a
   unfolding respond
   not-sound g =
       sym (buffer-right
-      ∙ ap (λ (y : Bool). servedWith (cond y (outcomeOf (framed (numberOf (decoded m)) (answered (decoded m) t m s .0)) (answered (decoded m) t m s .1)) (unsound s)) a) g)
+      ∙ ap (λ (y : Bool). servedWith (cond y (effectOf (framed (numberOf (decoded m)) (answered (decoded m) t m s .0)) (answered (decoded m) t m s .1)) (unsound s)) a) g)
 
   -- it is: what the command answered and left, b being the answer buffer after it, is written into the answer buffer
   module _ (g : isSound s ≡ true) (q : Request) (e : q ≡ decoded m) (r : Reply) (s′ : State) (b : List ℕ) (did : (r, s′) ≡ answered q t m s)
@@ -42,7 +42,7 @@ module _ (t : ℕ) (m : List ℕ) (s : State) (a : List ℕ) (h : length a ≡ a
 
     pub answers : (code len : ℕ) (z : List ℕ) → code ≡ framed number r .0 → len ≡ length (framed number r .1) → z ≡ answerAfter number r b
         → record { code = code; len = len; state = s′; answer = z } ≡ served t m s a
-    answers code len z ec el ez = whole ∙ sym (buffer-right ∙ ap (λ (o : Outcome). servedWith o a) (respond-is t m s g))
+    answers code len z ec el ez = whole ∙ sym (buffer-right ∙ ap (λ (o : Effect). servedWith o a) (respond-is t m s g))
       where
         answer-is : z ≡ laid (framed (numberOf (decoded m)) (answered (decoded m) t m s .0) .1) a
         answer-is =
@@ -59,7 +59,7 @@ module _ (t : ℕ) (m : List ℕ) (s : State) (a : List ℕ) (h : length a ≡ a
         len-is = el ∙ ap (λ (x : Answer). length (x .1)) said
 
         whole : _≡_ {A = Served} (record { code = code; len = len; state = s′; answer = z })
-            (servedWith (outcomeOf (framed (numberOf (decoded m)) (answered (decoded m) t m s .0)) (answered (decoded m) t m s .1)) a)
+            (servedWith (effectOf (framed (numberOf (decoded m)) (answered (decoded m) t m s .0)) (answered (decoded m) t m s .1)) a)
         whole = λ i. record { code = code-is i; len = len-is i; state = state-is i; answer = answer-is i }
 
 -- ---- a job outcome
@@ -67,7 +67,7 @@ module _ (t : ℕ) (m : List ℕ) (s : State) (a : List ℕ) (h : length a ≡ a
 pub no-outcome : (good : Bool) (s : State) → isSound s ≡ false → record { code = notSound; response = []; state = s } ≡ jobOutcome good s
 unfolding jobOutcome
 no-outcome good s g =
-    sym (ap (λ (y : Bool). cond y (outcomeOf (silent (onSession job 0 (outcome good) s .0)) (onSession job 0 (outcome good) s .1)) (unsound s)) g)
+    sym (ap (λ (y : Bool). cond y (effectOf (silent (onSession job 0 (endJob good) s .0)) (onSession job 0 (endJob good) s .1)) (unsound s)) g)
 
 quiet : (x : Reply) → [] ≡ silent x .1
 unfolding silent
@@ -76,13 +76,13 @@ quiet done = refl
 quiet (reply f) = refl
 
 -- it is: what the flash session answered and left
-pub outcome-taken : (good : Bool) (s : State) → isSound s ≡ true → (code : ℕ) (r : Reply) (s′ : State) → (r, s′) ≡ onSession job 0 (outcome good) s → code ≡ silent r .0
+pub outcome-taken : (good : Bool) (s : State) → isSound s ≡ true → (code : ℕ) (r : Reply) (s′ : State) → (r, s′) ≡ onSession job 0 (endJob good) s → code ≡ silent r .0
     → record { code = code; response = []; state = s′ } ≡ jobOutcome good s
 outcome-taken good s g code r s′ did e = whole ∙ sym (job-is good s g)
   where
-    whole : _≡_ {A = Outcome} (record { code = code; response = []; state = s′ }) (outcomeOf (silent (onSession job 0 (outcome good) s .0)) (onSession job 0 (outcome good) s .1))
+    whole : _≡_ {A = Effect} (record { code = code; response = []; state = s′ }) (effectOf (silent (onSession job 0 (endJob good) s .0)) (onSession job 0 (endJob good) s .1))
     whole = λ i. record {
       code = (e ∙ ap (λ (x : Reply × State). silent (x .0) .0) did) i;
-      response = quiet (onSession job 0 (outcome good) s .0) i;
+      response = quiet (onSession job 0 (endJob good) s .0) i;
       state = ap (λ (x : Reply × State). x .1) did i;
     }

@@ -4,19 +4,19 @@ ghost use mathlib.Core.List.{List};
 ghost use Prim.Native.Nat.{ℕ};
 ghost use Rattle.state.specs.State.{stateOf};
 ghost use Rattle.rules.specs.Respond.{silent, jobOutcome, served};
-ghost use Rattle.commands.specs.Left.{replyOf};
-ghost use Rattle.blobs.specs.Call.{servedOf, outcomeOf};
-use commands::Said;
-use decoding::decode;
+ghost use Rattle.response_types.specs.After.{replyOf};
+ghost use Rattle.blobs.specs.Call.{servedOf, jobEffectOf};
 use protocol::ANSWER_SIZE;
 use protocol::Code;
-use sending::finish;
-use serving::serve;
+use request_decode::decode;
+use request_serve::serve;
+use response_send::finish;
+use response_types::Said;
 use sound::sound;
 use state::Control;
 
 // The completion code, how long the response is, and the control block after the request.
-pub struct Reply {
+pub struct Response {
     pub code: Code,
     pub len: usize,
     pub control: Control,
@@ -36,18 +36,18 @@ pub fn respond(
     image: &mut [u8],
     hash: &mut [u8],
     answer: &mut [u8],
-) -> Reply
+) -> Response
     ensures { λ r. ⌜ servedOf r (now (table .exit)) (now (names .exit)) (now (committed .exit)) (now (staged .exit)) (now (image .exit)) (now (hash .exit)) (now (answer .exit)) ≡ served clock (now (request .entry)) (stateOf control (now (table .entry)) (now (names .entry)) (now (committed .entry)) (now (staged .entry)) (now (image .entry)) (now (hash .entry))) (now (answer .entry)) ⌝ }
 {
     if answer.len() != ANSWER_SIZE {
-        return Reply {
+        return Response {
             code: Code::NOT_SOUND,
             len: 0,
             control,
         };
     }
     if !sound(control, table, names, committed, staged, image, hash) {
-        return Reply {
+        return Response {
             code: Code::NOT_SOUND,
             len: 0,
             control,
@@ -71,7 +71,7 @@ pub fn respond(
     let sent = finish(asked.number(), said, answer);
     let next = act.control;
     let code = sent.code;
-    Reply {
+    Response {
         code,
         len: sent.len,
         control: next,
@@ -103,10 +103,10 @@ pub fn job_outcome(
     image: &[u8],
     hash: &[u8],
 ) -> Code
-    ensures { λ r. ⌜ outcomeOf r control (now (table .exit)) (now (names .entry)) (now (committed .entry)) (now (staged .entry)) (now (image .entry)) (now (hash .entry)) ≡ jobOutcome good (stateOf control (now (table .entry)) (now (names .entry)) (now (committed .entry)) (now (staged .entry)) (now (image .entry)) (now (hash .entry))) ⌝ }
+    ensures { λ r. ⌜ jobEffectOf r control (now (table .exit)) (now (names .entry)) (now (committed .entry)) (now (staged .entry)) (now (image .entry)) (now (hash .entry)) ≡ jobOutcome good (stateOf control (now (table .entry)) (now (names .entry)) (now (committed .entry)) (now (staged .entry)) (now (image .entry)) (now (hash .entry))) ⌝ }
 {
     if !sound(control, table, names, committed, staged, image, hash) {
         return Code::NOT_SOUND;
     }
-    code_of(sessions::outcome(control, table, good))
+    code_of(session_by_id::end_job(control, table, good))
 }

@@ -5,8 +5,8 @@ use Prim.Native.Nat.{ℕ, _/_, _%_}
 use Rattle.protocol.specs.Numbers.{notSound}
 use Rattle.state.specs.State.{State, stateOf}
 use Rattle.state.specs.declared.Control.{Control}
-use Rattle.rules.specs.Respond.{Outcome, jobOutcome, Served, served}
-use Rattle.control_words.specs.Words.{controlFits, controlOf, wordsOf}
+use Rattle.rules.specs.Respond.{Effect, jobOutcome, Served, served}
+use Rattle.capi_control.specs.Words.{controlFits, controlOf, wordsOf}
 
 -- the memory that holds a state: the control block's words, then what the state lends
 pub record Memory : Type 0 where
@@ -31,7 +31,7 @@ abbrev pub controlIn : State → Control
 controlIn s = record {
   rows = s .sessions .rows;
   slots = s .store .slots;
-  committed = s .store .marks;
+  marks = s .store .marks;
   «committed_len» = s .store .committedLens;
   «staged_len» = s .store .stagedLens;
   phase = s .flashGroup .phase;
@@ -81,7 +81,7 @@ pub record Reported : Type 0 where
   pub code : ℕ
   pub memory : Memory
 
-abbrev pub reportedWith : Outcome → Reported
+abbrev pub reportedWith : Effect → Reported
 reportedWith o = record { code = o .code; memory = memoryOf (o .state) }
 
 -- THE C FUNCTION `kramsnep_job_outcome`

@@ -10,10 +10,10 @@ use Rattle.protocol.specs.Numbers.{notSound, answerSize}
 use Rattle.state.specs.State.{State, stateOf}
 use Rattle.state.specs.Soundness.{isSound}
 use Rattle.state.specs.declared.Control.{Control}
-use Rattle.rules.specs.Respond.{Outcome, unsound, respond, jobOutcome, Served, servedWith, served}
+use Rattle.rules.specs.Respond.{Effect, unsound, respond, jobOutcome, Served, servedWith, served}
 use Rattle.guarantees.specs.Fits.{response-fits}
-use Rattle.control_words.specs.Words.{controlFits, controlOf, wordsOf}
-use Rattle.control_words.specs.Laws.{words-control}
+use Rattle.capi_control.specs.Words.{controlFits, controlOf, wordsOf}
+use Rattle.capi_control.specs.Laws.{words-control}
 use Rattle.capi.specs.Call.{Memory, stateIn, memoryOf, Responded, respondedWith, responded, codeUnit, resultOf, reportedWith, reported}
 
 -- the memory l with other control words
@@ -56,7 +56,7 @@ module _ (t : ℕ) (m : List ℕ) (l : Memory) (a : List ℕ) where
   unsound-kept h = go (controlFits (l .control)) refl
     where
       either : (y : Bool) → servedWith (cond y (respond t m (stateIn l)) (unsound (stateIn l))) a ≡ servedWith (unsound (stateIn l)) a
-      either true = ap (λ (o : Outcome). servedWith o a) (refused-unsound h)
+      either true = ap (λ (o : Effect). servedWith o a) (refused-unsound h)
       either false = refl
 
       go : (y : Bool) → controlFits (l .control) ≡ y → responded t m l a ≡ refusedKept l a

@@ -22,16 +22,17 @@ use Rattle.protocol.specs.declared.Blob.the-variants.{Store, Flash, Base, Unkno
 use Rattle.protocol.specs.declared.Request.{Request}
 use Rattle.protocol.specs.declared.Request.the-variants.{Count, Enumerate, Open, Read, Write, Commit, Close, Delete, Stat, SessionStat, WriteMeta, Refused}
 use Rattle.state.specs.declared.Phase.{Phase}
-use Rattle.state.specs.State.{State, Row, Slot, Flash as FlashBody, Place, slot, flash, Body, placeOf, inRow, inBody}
+use Rattle.state.specs.State.{State, Row, Slot, FlashBody, Place, slot, flash, Body, placeOf, inRow, inBody}
 use Rattle.state.specs.Words.{blobOf, wordOf, statusOf, writes, blob}
 use Rattle.state.specs.Soundness.{slotAt, isSound}
-use Rattle.rules.specs.Store.{Command, read, write, commit, stat, close, writeMeta, outcome, commitFits, Out, readStore, stored, writeStore, commitWriting, commitStore, onStore, stateBits, seenLength}
+use Rattle.rules.specs.Store.{readStore, stored, writeStore, commitWriting, commitStore, onStore, seenLength}
+use Rattle.rules.specs.Command.{Command, read, write, commit, stat, close, writeMeta, endJob, commitFits, Out, stateBits}
 use Rattle.rules.specs.Flash.{writeFlash, startable, verifyJob, updateJob, commitKind, commitFlash, closeFlash, jobEnds, onFlash, flashLength}
 use Rattle.rules.specs.Session.{onPart, Address, by, job, meant, onFound, onSession, statPart, statRow}
 use Rattle.rules.specs.Sweep.{swept}
 use Rattle.rules.specs.Open.{slotNamed, rowOn, freeRowIn, freeSlotIn, opened, openNew, openFree, openHeld, openNamed, storeFlags, openStore, flashListed, openFlashFree, openFlashQuiet, openFlashListed, flashFlags, openFlash, openBlob, deleteQuiet, deleteNamed, deleteBlob, statSlot, statNamed, statKind, statBlob}
 use Rattle.rules.specs.Listing.{only, listedFlash, committedNames, flashNames, listed, enumerated, count}
-use Rattle.rules.specs.Respond.{Outcome, outcomeOf, unsound, answered, respond}
+use Rattle.rules.specs.Respond.{Effect, effectOf, unsound, answered, respond}
 use Rattle.guarantees.specs.Naming.{name-bound}
 use Rattle.rules.specs.Laws.{cond-has, placed-has}
 
@@ -85,7 +86,7 @@ module _ (r : Row) (b : Slot) where
   short-store t stat = stat-short (stateBits (wordOf r)) (seenLength (writes r) b)
   short-store t close = tt
   short-store t writeMeta = tt
-  short-store t (outcome g) = tt
+  short-store t (endJob g) = tt
 
 module _ (r : Row) (b : FlashBody) where
   short-flash-write : (k : FlashKind) (ws : List ℕ) (t i : ℕ) → Short (writeFlash k ws t i r b .0)
@@ -137,7 +138,7 @@ module _ (r : Row) (b : FlashBody) where
   short-flash k t stat = stat-short (stateBits (wordOf r)) (flashLength k b)
   short-flash k t close = short-flash-close (eqb (statusOf r) running) k
   short-flash k t writeMeta = tt
-  short-flash k t (outcome g) = short-job (eqb (statusOf r) running) g
+  short-flash k t (endJob g) = short-job (eqb (statusOf r) running) g
 
 short-part : (p : Place) (t : ℕ) (c : Command) (r : Row) (b : Body p) → Short (onPart p t c r b .0)
 short-part (slot k) t c r b = short-store r b t c
@@ -315,7 +316,7 @@ short-answered (Enumerate index) t m s = short-enumerated index s
 short-answered (Open flags b) t m s = short-open b flags t m (swept t s)
 short-answered (Read session offset n) t m s = short-session _ t _ s
 short-answered (Write session offset start) t m s = short-session _ t _ s
-short-answered (Commit session len left) t m s = short-session _ t _ s
+short-answered (Commit session len rest) t m s = short-session _ t _ s
 short-answered (Close session) t m s = short-session _ t _ s
 short-answered (Delete b) t m s = short-delete b m s
 short-answered (Stat b) t m s = short-stat b m s
@@ -334,8 +335,8 @@ pub response-fits : (t : ℕ) (m : List ℕ) (s : State) → length (respond t m
 unfolding respond
 response-fits t m s = go (isSound s)
   where
-    full : Outcome
-    full = outcomeOf (framed (numberOf (decoded m)) (answered (decoded m) t m s .0)) (answered (decoded m) t m s .1)
+    full : Effect
+    full = effectOf (framed (numberOf (decoded m)) (answered (decoded m) t m s .0)) (answered (decoded m) t m s .1)
 
     go : (y : Bool) → length (cond y full (unsound s) .response) ≤ answerSize
     go true = frame-short (numberOf (decoded m)) (answered (decoded m) t m s .0) (short-answered (decoded m) t m s)

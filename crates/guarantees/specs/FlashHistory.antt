@@ -24,15 +24,15 @@ use Rattle.state.specs.State.{State}
 use Rattle.state.specs.Words.{wordWith, fresh}
 use Rattle.state.specs.Soundness.{isSound}
 use Rattle.state.specs.Fresh.{fresh-sound}
-use Rattle.rules.specs.Store.{outcome}
+use Rattle.rules.specs.Command.{endJob}
 use Rattle.rules.specs.Flash.{verifyJob, updateJob, commitKind, commitFlash, closedFlash, closeFlash, jobEnds, onFlash}
 use Rattle.rules.specs.Session.{job, onSession}
 use Rattle.rules.specs.Sweep.{swept}
 use Rattle.rules.specs.Open.{rowOn, freeRowIn, freshFrom, opened, openFlash, openBlob, flashListed, openedFlash}
-use Rattle.rules.specs.Respond.{Outcome, answered}
+use Rattle.rules.specs.Respond.{Effect, answered}
 use Rattle.rules.specs.Laws.{respond-is, job-is}
 use Rattle.rules.specs.Messages.{askOpen, askCommit, askClose, commit-decoded, close-decoded}
-use Rattle.guarantees.specs.Merging.{Event, message, outcome-of}
+use Rattle.guarantees.specs.Merging.{Event, message, jobEnded}
 use Rattle.guarantees.specs.FlashPromise.{next, run, jobState, startsUpdate, next-sound, run-sound}
 
 -- ---- the events
@@ -54,7 +54,7 @@ commitVerify = message 4 (askCommit 1)
 
 -- the job succeeds
 abbrev pub goodOutcome : Event
-goodOutcome = outcome-of true
+goodOutcome = jobEnded true
 
 -- close verify
 abbrev pub closeVerify : Event
@@ -130,7 +130,7 @@ commits-verify : (m : List ℕ) → answered (Commit 1 0 0) 4 m verifyOpen .1 �
 unfolding answered onSession first onFlash kindOf commitFlash commitKind verifyJob
 commits-verify m = refl
 
-good-verify : onSession job 0 (outcome true) verifyRuns .1 ≡ verifyGood
+good-verify : onSession job 0 (endJob true) verifyRuns .1 ≡ verifyGood
 unfolding onSession first onFlash kindOf jobEnds
 good-verify = refl
 
@@ -156,10 +156,10 @@ open-decoded Cleanup = refl
 
 -- ---- one after the other
 by-message : (t : ℕ) (m : List ℕ) (q : Request) (s y : State) → decoded m ≡ q → answered q t m s .1 ≡ y → isSound s ≡ true → next s (message t m) ≡ y
-by-message t m q s y d e h = ap (λ (o : Outcome). o .state) (respond-is t m s h) ∙ ap (λ (x : Request). answered x t m s .1) d ∙ e
+by-message t m q s y d e h = ap (λ (o : Effect). o .state) (respond-is t m s h) ∙ ap (λ (x : Request). answered x t m s .1) d ∙ e
 
-by-outcome : (good : Bool) (s y : State) → onSession job 0 (outcome good) s .1 ≡ y → isSound s ≡ true → next s (outcome-of good) ≡ y
-by-outcome good s y e h = ap (λ (o : Outcome). o .state) (job-is good s h) ∙ e
+by-outcome : (good : Bool) (s y : State) → onSession job 0 (endJob good) s .1 ≡ y → isSound s ≡ true → next s (jobEnded good) ≡ y
+by-outcome good s y e h = ap (λ (o : Effect). o .state) (job-is good s h) ∙ e
 
 -- an event, then the rest
 on : (s y z : State) (e : Event) (es : List Event) → (isSound s ≡ true → next s e ≡ y) → (isSound y ≡ true → run y es ≡ z) → isSound s ≡ true → run s (e ∷ es) ≡ z

@@ -15,10 +15,11 @@ use Rattle.protocol.specs.declared.FlashKind.{FlashKind}
 use Rattle.protocol.specs.declared.FlashKind.the-variants.{Image, Hash, Verify, Update, Cleanup}
 use Rattle.state.specs.declared.Phase.{Phase}
 use Rattle.state.specs.declared.Phase.the-variants.{Idle, Uploading, Verified}
-use Rattle.state.specs.State.{Row, Flash, flash, FitsRow}
+use Rattle.state.specs.State.{Row, FlashBody, flash}
+use Rattle.state.specs.Parts.{FitsRow}
 use Rattle.state.specs.Words.{idOf, blobOf, wordOf, stampOf, flagsIn, statusIn, cleanIn, statusOf, cleanOf, wordWith, stamped, withStatus, freeRow, emptyFlash}
 use Rattle.state.specs.Facts.{PhaseOk, FlashIdle, FlashSession}
-use Rattle.rules.specs.Store.{Command, read, write, commit, stat, close, writeMeta, outcome, Out, bytesAfter, lengthAfter, commitFits}
+use Rattle.rules.specs.Command.{Command, read, write, commit, stat, close, writeMeta, endJob, Out, bytesAfter, lengthAfter, commitFits}
 use Rattle.rules.specs.Flash.{withPhase, withImage, withHash, writeFlash, startable, verifyJob, updateJob, commitKind, commitFlash, closedFlash, closeFlash, verdict, jobEnds, onFlash}
 use Rattle.rules.specs.Laws.{cond-has, placed-has}
 use Rattle.rules.specs.Change.{Proper}
@@ -46,17 +47,17 @@ module _ (w v : ℕ) (h : w < cleanUnit) (hv : v < 4) where
 pub empty-idle : FlashIdle emptyFlash
 empty-idle = record { image-fits = omega arith; hash-fits = omega arith; idle-image = λ (h : Idle ≡ Idle). refl; idle-hash = λ (h : Idle ≡ Idle). refl }
 
-module _ (r : Row) (b : Flash) (fr : FitsRow r) (fi : length (b .image) ≡ imageSize) (fh : length (b .hash) ≡ hashSize) (on : r .used ≡ 1) (ses : FlashSession r b) where
-  abbrev Fine : Row × Flash → Type 0
+module _ (r : Row) (b : FlashBody) (fr : FitsRow r) (fi : length (b .image) ≡ imageSize) (fh : length (b .hash) ≡ hashSize) (on : r .used ≡ 1) (ses : FlashSession r b) where
+  abbrev Fine : Row × FlashBody → Type 0
   Fine c = Proper flash r (c .0) b (c .1)
 
   abbrev kind : FlashKind
   kind = kindOf (blobOf r)
 
-  abbrev Sized : Flash → Type 0
+  abbrev Sized : FlashBody → Type 0
   Sized d = (length (d .image) ≡ imageSize) × (length (d .hash) ≡ hashSize)
 
-  going : (q : Row) (d : Flash) → length (q .words) ≡ rowWords → q .used ≡ 1 → Sized d → idOf q ≡ idOf r → blobOf q ≡ blobOf r → FlashSession q d → Fine (q, d)
+  going : (q : Row) (d : FlashBody) → length (q .words) ≡ rowWords → q .used ≡ 1 → Sized d → idOf q ≡ idOf r → blobOf q ≡ blobOf r → FlashSession q d → Fine (q, d)
   going q d four u fd e0 e1 sq = record {
     row-fits = record { four = four; flag = omega arith };
     body-fits = fd;
@@ -68,7 +69,7 @@ module _ (r : Row) (b : Flash) (fr : FitsRow r) (fi : length (b .image) ≡ imag
   same : Fine (r, b)
   same = going r b (fr .four) on (fi, fh) refl refl ses
 
-  later : (t : ℕ) (q : Row) (d : Flash) → length (q .words) ≡ rowWords → q .used ≡ 1 → Sized d → idOf q ≡ idOf r → blobOf q ≡ blobOf r → FlashSession q d → Fine (stamped t q, d)
+  later : (t : ℕ) (q : Row) (d : FlashBody) → length (q .words) ≡ rowWords → q .used ≡ 1 → Sized d → idOf q ≡ idOf r → blobOf q ≡ blobOf r → FlashSession q d → Fine (stamped t q, d)
   later t q d four u fd e0 e1 sq =
       going (stamped t q) d (length-set (q .words) 3 v ∙ four) u fd (at 0 (omega arith) ∙ e0) (at 1 (omega arith) ∙ e1)
       (rw (at 0 (omega arith), at 1 (omega arith), at 2 (omega arith)) sq)
@@ -80,7 +81,7 @@ module _ (r : Row) (b : Flash) (fr : FitsRow r) (fi : length (b .image) ≡ imag
       at j n = getD-set-other (q .words) 3 j v 0 n
 
   -- the same row with another body
-  rebodied : (t : ℕ) (d : Flash) → Sized d → PhaseOk kind (statusOf r) (d .phase) → FlashIdle d → Fine (stamped t r, d)
+  rebodied : (t : ℕ) (d : FlashBody) → Sized d → PhaseOk kind (statusOf r) (d .phase) → FlashIdle d → Fine (stamped t r, d)
   rebodied t d fd ph fl = later t r d (fr .four) on fd refl refl
       (record { id-small = ses .id-small; is-flash = ses .is-flash; a-kind = ses .a-kind; flags = ses .flags; rest-zero = ses .rest-zero; phased = ph; lengths = fl })
 
@@ -94,7 +95,7 @@ module _ (r : Row) (b : Flash) (fr : FitsRow r) (fi : length (b .image) ≡ imag
   at-set : (v j : ℕ) → j ≢ 2 → getD (withStatus v r .words) j 0 ≡ getD (r .words) j 0
   at-set v j n = getD-set-other (r .words) 2 j (word v) 0 n
 
-  set-facts : (v : ℕ) (d : Flash) → v < 4 → PhaseOk kind v (d .phase) → FlashIdle d → FlashSession (withStatus v r) d
+  set-facts : (v : ℕ) (d : FlashBody) → v < 4 → PhaseOk kind v (d .phase) → FlashIdle d → FlashSession (withStatus v r) d
   set-facts v d h ph fl =
       rw (at-set v 0 (omega arith), at-set v 1 (omega arith), getD-set-same (r .words) 2 (word v) 0 (let f = fr .four in omega arith))
       (record {
@@ -110,10 +111,10 @@ module _ (r : Row) (b : Flash) (fr : FitsRow r) (fi : length (b .image) ≡ imag
   set-four : (v : ℕ) → length (withStatus v r .words) ≡ rowWords
   set-four v = length-set (r .words) 2 (word v) ∙ fr .four
 
-  restated : (t v : ℕ) (d : Flash) → v < 4 → Sized d → PhaseOk kind v (d .phase) → FlashIdle d → Fine (stamped t (withStatus v r), d)
+  restated : (t v : ℕ) (d : FlashBody) → v < 4 → Sized d → PhaseOk kind v (d .phase) → FlashIdle d → Fine (stamped t (withStatus v r), d)
   restated t v d h fd ph fl = later t (withStatus v r) d (set-four v) on fd (at-set v 0 (omega arith)) (at-set v 1 (omega arith)) (set-facts v d h ph fl)
 
-  ended : (d : Flash) → Sized d → FlashIdle d → Fine (freeRow, d)
+  ended : (d : FlashBody) → Sized d → FlashIdle d → Fine (freeRow, d)
   ended d fd fl = record {
     row-fits = record { four = refl; flag = omega arith };
     body-fits = fd;
@@ -153,9 +154,9 @@ module _ (r : Row) (b : Flash) (fr : FitsRow r) (fi : length (b .image) ≡ imag
   on-write : (k : FlashKind) (ws : List ℕ) (t i : ℕ) → PhaseOk k (statusOf r) (b .phase) → Fine (writeFlash k ws t i r b .1)
   unfolding writeFlash
   on-write Image ws t i ph =
-      placed-has imageSize (b .imageLen) i (length ws) r b _ (λ (o : Out Flash). Fine (o .1)) (λ (h : i ≤ b .imageLen) (l : i + length ws ≤ imageSize). on-image ws t i (ph .1) l) (λ (code : ℕ). same)
+      placed-has imageSize (b .imageLen) i (length ws) r b _ (λ (o : Out FlashBody). Fine (o .1)) (λ (h : i ≤ b .imageLen) (l : i + length ws ≤ imageSize). on-image ws t i (ph .1) l) (λ (code : ℕ). same)
   on-write Hash ws t i ph =
-      placed-has hashSize (b .hashLen) i (length ws) r b _ (λ (o : Out Flash). Fine (o .1)) (λ (h : i ≤ b .hashLen) (l : i + length ws ≤ hashSize). on-hash ws t i (ph .1) l) (λ (code : ℕ). same)
+      placed-has hashSize (b .hashLen) i (length ws) r b _ (λ (o : Out FlashBody). Fine (o .1)) (λ (h : i ≤ b .hashLen) (l : i + length ws ≤ hashSize). on-hash ws t i (ph .1) l) (λ (code : ℕ). same)
   on-write Verify ws t i ph = same
   on-write Update ws t i ph = same
   on-write Cleanup ws t i ph = same
@@ -185,7 +186,7 @@ module _ (r : Row) (b : Flash) (fr : FitsRow r) (fi : length (b .image) ≡ imag
   on-commit true t = on-commit-kind kind t refl (ses .phased)
   on-commit false t = same
 
-  abbrev Ends : Flash → Type 0
+  abbrev Ends : FlashBody → Type 0
   Ends d = Sized d × FlashIdle d
 
   ends-kind : (k : FlashKind) (st : ℕ) → Ends (closedFlash k st b)
@@ -230,4 +231,4 @@ module _ (r : Row) (b : Flash) (fr : FitsRow r) (fi : length (b .image) ≡ imag
   proper-flash t stat = touched t
   proper-flash t close = on-close (eqb (statusOf r) running)
   proper-flash t writeMeta = same
-  proper-flash t (outcome g) = on-job (eqb (statusOf r) running) g refl
+  proper-flash t (endJob g) = on-job (eqb (statusOf r) running) g refl

@@ -27,28 +27,29 @@ use Rattle.protocol.specs.declared.Blob.the-variants.{Store, Flash, Base, Unkno
 use Rattle.protocol.specs.declared.Request.{Request}
 use Rattle.protocol.specs.declared.Request.the-variants.{Count, Enumerate, Open, Read, Write, Commit, Close, Delete, Stat, SessionStat, WriteMeta, Refused}
 use Rattle.state.specs.declared.Phase.the-variants.{Uploading, Verified}
-use Rattle.state.specs.State.{State, Row, Slot, Flash as FlashBody, Place, slot, flash, Body, placeOf, inRow, inBody, cell, cell-row-other, row-put, row-view-fits}
+use Rattle.state.specs.State.{State, Row, Slot, FlashBody, Place, slot, flash, Body, placeOf, inRow, inBody, cell}
+use Rattle.state.specs.Parts.{cell-row-other, row-put, row-view-fits}
 use Rattle.state.specs.Words.{blobOf, wordOf, stampOf, flagsIn, statusIn, statusOf, cleanOf, wordWith, stamped, withStatus, emptyFlash, blob, inUse, Live, fresh, status-with, freeSlot}
 use Rattle.state.specs.Soundness.{isSound, slotAt}
 use Rattle.state.specs.Facts.{FlashSession, PhaseOk, Session, Sound}
 use Rattle.state.specs.Fresh.{fresh-sound}
 use Rattle.state.specs.Agree.{sound-of-test, apart-blobs, place-flash}
-use Rattle.rules.specs.Store.{Command, read, write, commit, stat, close, writeMeta, outcome, Out, commitFits}
+use Rattle.rules.specs.Command.{Command, read, write, commit, stat, close, writeMeta, endJob, Out, commitFits}
 use Rattle.rules.specs.Flash.{withPhase, writeFlash, startable, verifyJob, updateJob, commitKind, commitFlash, closedFlash, closeFlash, jobEnds, onFlash}
 use Rattle.rules.specs.Session.{onPart, onPlace, onRow, Address, by, job, meant, onFound, onSession}
 use Rattle.rules.specs.Sweep.{stale, sweepRow, sweepRows, noted, due, swept}
 use Rattle.rules.specs.Open.{slotNamed, rowOn, freeRowIn, freeSlotIn, freshId, newRow, opened, newSlot, heldSlot, openNew, openFree, openHeld, openNamed, storeFlags, openStore, flashListed, openedFlash, openFlashFree, openFlashQuiet, openFlashListed, flashFlags, openFlash, openBlob, deleteQuiet, deleteNamed, deleteBlob}
-use Rattle.rules.specs.Respond.{Outcome, answered, respond}
+use Rattle.rules.specs.Respond.{Effect, answered, respond}
 use Rattle.rules.specs.Laws.{respond-is, job-is, cond-has, placed-has}
 use Rattle.rules.specs.Change.{Proper, row-new, row-old, Was, was}
-use Rattle.guarantees.specs.Merging.{Event, message, outcome-of, outcomeOn, proper-row}
+use Rattle.guarantees.specs.Merging.{Event, message, jobEnded, effectOn, proper-row}
 use Rattle.guarantees.specs.Keep.{swept-sound, sweep-rows-sound, respond-sound, job-sound}
 use Rattle.rules.specs.Searches.{free-row, no-flash-row, meant-live, on-row, row-on}
 
 -- ---- histories
 -- the state after an event, and after a history
 abbrev pub next : State → Event → State
-next s e = outcomeOn e s .state
+next s e = effectOn e s .state
 
 -- the state after a history
 abbrev pub run : State → List Event → State
@@ -97,13 +98,13 @@ asksImage (Refused c) = false
 -- it asks for it, and is answered 00
 abbrev pub opensImage : State → Event → Bool
 opensImage s (message t m) = asksImage (decoded m) && eqb (respond t m s .code) success
-opensImage s (outcome-of good) = false
+opensImage s (jobEnded good) = false
 
 -- the event verifies the image: a good outcome while a verify job runs
 abbrev pub verifiesImage : State → Event → Bool
 verifiesImage s (message t m) = false
-verifiesImage s (outcome-of true) = eqb (jobState Verify s) running
-verifiesImage s (outcome-of false) = false
+verifiesImage s (jobEnded true) = eqb (jobState Verify s) running
+verifiesImage s (jobEnded false) = false
 
 -- the event starts an update job: it runs after the event, and did not before
 abbrev pub startsUpdate : State → Event → Bool
@@ -146,8 +147,8 @@ Good (commit n l) = ⊥
 Good stat = ⊥
 Good close = ⊥
 Good writeMeta = ⊥
-Good (outcome true) = Unit {0}
-Good (outcome false) = ⊥
+Good (endJob true) = Unit {0}
+Good (endJob false) = ⊥
 
 stamped-status : (t : ℕ) (r : Row) → statusOf (stamped t r) ≡ statusOf r
 stamped-status t r = ap statusIn (getD-set-other (r .words) 3 2 (max (stampOf r) t) 0 (omega arith))
@@ -204,11 +205,11 @@ module _ (t : ℕ) (r : Row) (b : FlashBody) (four : length (r .words) ≡ rowWo
   two-close c true k = two-same c
   two-close c false k = λ (h : _≡_ {A = ℕ} 0 2). absurd (omega arith)
 
-  two-job : (y g : Bool) → eqb (statusOf r) running ≡ y → Two (outcome g) (jobEnds y g r b .1 .0)
+  two-job : (y g : Bool) → eqb (statusOf r) running ≡ y → Two (endJob g) (jobEnds y g r b .1 .0)
   unfolding jobEnds
   two-job true true e = λ (h : statusOf (withStatus succeeded r) ≡ succeeded). that (tt, eqb-true (statusOf r) 1 e)
   two-job true false e = λ (h : statusOf (withStatus failed r) ≡ succeeded). absurd (let z = status-set 3 r four (omega arith) in omega arith)
-  two-job false g e = two-same (outcome g)
+  two-job false g e = two-same (endJob g)
 
   two-flash : (k : FlashKind) (c : Command) → k ≡ Verify → Two c (onFlash k t c r b .1 .0)
   unfolding onFlash
@@ -218,7 +219,7 @@ module _ (t : ℕ) (r : Row) (b : FlashBody) (four : length (r .words) ≡ rowWo
   two-flash k stat e = two-later stat
   two-flash k close e = two-close close (eqb (statusOf r) running) k
   two-flash k writeMeta e = two-same writeMeta
-  two-flash k (outcome g) e = two-job (eqb (statusOf r) running) g refl
+  two-flash k (endJob g) e = two-job (eqb (statusOf r) running) g refl
 
   -- phase Verified: it was so, or a verify session with status 2 closes
   abbrev Ver : FlashKind → FlashBody → Type 0
@@ -297,7 +298,7 @@ module _ (t : ℕ) (r : Row) (b : FlashBody) (four : length (r .words) ≡ rowWo
   ver-flash k stat = ver-same k
   ver-flash k close = ver-close k (eqb (statusOf r) running)
   ver-flash k writeMeta = ver-same k
-  ver-flash k (outcome g) = ver-job k (eqb (statusOf r) running) g
+  ver-flash k (endJob g) = ver-job k (eqb (statusOf r) running) g
 
 -- ---- the image stands verified: phase Verified, or a verify session whose job succeeded
 pub record VerifyRow (s : State) (st : ℕ) : Type 0 where
@@ -652,7 +653,7 @@ message-moves (Enumerate index) t m s g = moves-same s
 message-moves (Open flags b) t m s g = open-moves b flags t m s g
 message-moves (Read session offset n) t m s g = moves-flow s _ (flow-session (by session) t (read offset n) s g)
 message-moves (Write session offset start) t m s g = moves-flow s _ (flow-session (by session) t (write offset (drop start m)) s g)
-message-moves (Commit session len left) t m s g = moves-flow s _ (flow-session (by session) t (commit len left) s g)
+message-moves (Commit session len rest) t m s g = moves-flow s _ (flow-session (by session) t (commit len rest) s g)
 message-moves (Close session) t m s g = moves-flow s _ (flow-session (by session) t close s g)
 message-moves (Delete b) t m s g = deleted-moves b m s
 message-moves (Stat b) t m s g = moves-same s
@@ -670,10 +671,10 @@ stands-watch : (v : Bool) (s : State) (e : Event) → isSound s ≡ true → (St
 stands-watch v s (message t m) h f st =
     let g = sound-of-test s h in
     let e = respond-is t m s h in
-    let k = message-moves (decoded m) t m s g .stands-kept (subst (λ (o : Outcome). Stands (o .state)) e st) in
-    let o : opensImage s (message t m) ≡ false = ap (λ (x : Outcome). asksImage (decoded m) && eqb (x .code) success) e ∙ k .0 in
+    let k = message-moves (decoded m) t m s g .stands-kept (subst (λ (o : Effect). Stands (o .state)) e st) in
+    let o : opensImage s (message t m) ≡ false = ap (λ (x : Effect). asksImage (decoded m) && eqb (x .code) success) e ∙ k .0 in
     ap (λ (y : Bool). cond y false (cond false true v)) o ∙ f (k .1)
-stands-watch v s (outcome-of true) h f st = go (flow-session job 0 (outcome true) s (sound-of-test s h) .stands-from (subst (λ (o : Outcome). Stands (o .state)) (job-is true s h) st))
+stands-watch v s (jobEnded true) h f st = go (flow-session job 0 (endJob true) s (sound-of-test s h) .stands-from (subst (λ (o : Effect). Stands (o .state)) (job-is true s h) st))
   where
     or-so : (y : Bool) → v ≡ true → cond y true v ≡ true
     or-so true e = refl
@@ -682,7 +683,7 @@ stands-watch v s (outcome-of true) h f st = go (flow-session job 0 (outcome true
     go : Or (Stands s) (Unit {0} × VerifyRow s running) → cond (eqb (jobState Verify s) running) true v ≡ true
     go (this x) = or-so (eqb (jobState Verify s) running) (f x)
     go (that x) = ap (λ (y : Bool). cond y true v) (verify-runs s (sound-of-test s h) (x .1))
-stands-watch v s (outcome-of false) h f st = go (flow-session job 0 (outcome false) s (sound-of-test s h) .stands-from (subst (λ (o : Outcome). Stands (o .state)) (job-is false s h) st))
+stands-watch v s (jobEnded false) h f st = go (flow-session job 0 (endJob false) s (sound-of-test s h) .stands-from (subst (λ (o : Effect). Stands (o .state)) (job-is false s h) st))
   where
     go : Or (Stands s) (⊥ × VerifyRow s running) → v ≡ true
     go (this x) = f x
@@ -692,12 +693,12 @@ stands-watch v s (outcome-of false) h f st = go (flow-session job 0 (outcome fal
 row-was : (s : State) (e : Event) → isSound s ≡ true → (x : ℕ) → Live x (next s e) → statusOf (inRow x .get (next s e)) ≢ untried → (Live x s) × (blob x (next s e) ≡ blob x s)
 row-was s (message t m) h x l n =
     let e = respond-is t m s h in
-    let k = message-moves (decoded m) t m s (sound-of-test s h) .rows-from x (subst (λ (o : Outcome). Live x (o .state)) e l) (subst (λ (o : Outcome). statusOf (inRow x .get (o .state)) ≢ untried) e n) in
-    (k .0, ap (λ (o : Outcome). blob x (o .state)) e ∙ k .1)
-row-was s (outcome-of good) h x l n =
+    let k = message-moves (decoded m) t m s (sound-of-test s h) .rows-from x (subst (λ (o : Effect). Live x (o .state)) e l) (subst (λ (o : Effect). statusOf (inRow x .get (o .state)) ≢ untried) e n) in
+    (k .0, ap (λ (o : Effect). blob x (o .state)) e ∙ k .1)
+row-was s (jobEnded good) h x l n =
     let e = job-is good s h in
-    let k = flow-session job 0 (outcome good) s (sound-of-test s h) .row-from x (subst (λ (o : Outcome). Live x (o .state)) e l) in
-    (k .0, ap (λ (o : Outcome). blob x (o .state)) e ∙ k .1)
+    let k = flow-session job 0 (endJob good) s (sound-of-test s h) .row-from x (subst (λ (o : Effect). Live x (o .state)) e l) in
+    (k .0, ap (λ (o : Effect). blob x (o .state)) e ∙ k .1)
 
 -- an update session is open only in phase Verified
 update-phase : (s : State) → Sound s → (x : ℕ) → Live x s → blob x s ≡ updateBlob → s .flashGroup .phase ≡ Verified
@@ -719,7 +720,7 @@ update-stands s e h st = go (rowOn updateBlob (next s e)) refl (eqb-true (status
 -- every event keeps a sound state sound
 pub next-sound : (s : State) (e : Event) → isSound s ≡ true → isSound (next s e) ≡ true
 next-sound s (message t m) h = respond-sound t m s h
-next-sound s (outcome-of good) h = job-sound good s h
+next-sound s (jobEnded good) h = job-sound good s h
 
 -- EVERY HISTORY KEEPS A SOUND STATE SOUND
 pub run-sound : (es : List Event) (s : State) → isSound s ≡ true → isSound (run s es) ≡ true

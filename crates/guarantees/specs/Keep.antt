@@ -24,17 +24,19 @@ use Rattle.protocol.specs.declared.Blob.the-variants.{Store, Flash, Base, Unkno
 use Rattle.protocol.specs.declared.Request.{Request}
 use Rattle.protocol.specs.declared.Request.the-variants.{Count, Enumerate, Open, Read, Write, Commit, Close, Delete, Stat, SessionStat, WriteMeta, Refused}
 use Rattle.state.specs.declared.Phase.the-variants.{Idle, Uploading}
-use Rattle.state.specs.State.{State, Slot, Flash as FlashBody, Place, slot, flash, Body, Separate, placeOf, inRow, inBody, cell, FitsSlot, FitsBody, body-shape, body-get-put, row-body, body-indep, body-view-fits}
+use Rattle.state.specs.State.{State, Slot, FlashBody, Place, slot, flash, Body, placeOf, inRow, inBody, cell}
+use Rattle.state.specs.Parts.{Separate, FitsSlot, FitsBody, body-shape, body-get-put, row-body, body-indep, body-view-fits}
 use Rattle.state.specs.Words.{wordOf, ident, blob, inUse, Live, freeSlot, wordWith, flagsIn, statusIn, cleanIn, writingIn}
 use Rattle.state.specs.Soundness.{slotAt, isSound}
 use Rattle.state.specs.Facts.{StoreFacts, StoreIdle, FlashIdle, PhaseOk, Session, Sound}
 use Rattle.state.specs.Fresh.{free-idle}
 use Rattle.state.specs.Agree.{sound-of-test, test-of-sound, place-slot, place-flash, place-cases, blobs-apart, not-idle-is, verified-is, back-flash}
-use Rattle.rules.specs.Store.{Command, close, outcome, withStaged}
+use Rattle.rules.specs.Store.{withStaged}
+use Rattle.rules.specs.Command.{Command, close, endJob}
 use Rattle.rules.specs.Session.{Address, job, meant, onRow, onFound, onSession}
 use Rattle.rules.specs.Sweep.{stale, sweepRow, sweepRows, noted, due, swept}
 use Rattle.rules.specs.Open.{slotNamed, rowOn, freeRowIn, freeSlotIn, after, freshId, newRow, opened, newSlot, heldSlot, openNew, openFree, openHeld, openNamed, storeFlags, openStore, flashListed, openedFlash, openFlashFree, openFlashQuiet, openFlashListed, flashFlags, openFlash, openBlob, deleteQuiet, deleteNamed, deleteBlob}
-use Rattle.rules.specs.Respond.{Outcome, answered, respond, jobOutcome}
+use Rattle.rules.specs.Respond.{Effect, answered, respond, jobOutcome}
 use Rattle.rules.specs.Laws.{respond-is, job-is}
 use Rattle.rules.specs.Change.{change-sound, NewName, added-sound, values-sound}
 use Rattle.guarantees.specs.Merging.{on-row-sound}
@@ -366,7 +368,7 @@ answered-sound (Enumerate index) t m s nm g = g
 answered-sound (Open flags b) t m s nm g = open-sound b flags t m (swept t s) nm (swept-sound t s g)
 answered-sound (Read session offset n) t m s nm g = session-sound _ t _ s g
 answered-sound (Write session offset start) t m s nm g = session-sound _ t _ s g
-answered-sound (Commit session len left) t m s nm g = session-sound _ t _ s g
+answered-sound (Commit session len rest) t m s nm g = session-sound _ t _ s g
 answered-sound (Close session) t m s nm g = session-sound _ t _ s g
 answered-sound (Delete b) t m s nm g = delete-sound b m s g
 answered-sound (Stat b) t m s nm g = g
@@ -377,9 +379,9 @@ answered-sound (Refused code) t m s nm g = g
 -- EVERY MESSAGE KEEPS A SOUND STATE SOUND
 pub respond-sound : (t : ℕ) (m : List ℕ) (s : State) → isSound s ≡ true → isSound (respond t m s .state) ≡ true
 respond-sound t m s h =
-    ap (λ (o : Outcome). isSound (o .state)) (respond-is t m s h) ∙ test-of-sound (answered (decoded m) t m s .1) (answered-sound (decoded m) t m s (decoded-inside m) (sound-of-test s h))
+    ap (λ (o : Effect). isSound (o .state)) (respond-is t m s h) ∙ test-of-sound (answered (decoded m) t m s .1) (answered-sound (decoded m) t m s (decoded-inside m) (sound-of-test s h))
 
 -- AND SO DOES A JOB OUTCOME
 pub job-sound : (good : Bool) (s : State) → isSound s ≡ true → isSound (jobOutcome good s .state) ≡ true
 job-sound good s h =
-    ap (λ (o : Outcome). isSound (o .state)) (job-is good s h) ∙ test-of-sound (onSession job 0 (outcome good) s .1) (session-sound job 0 (outcome good) s (sound-of-test s h))
+    ap (λ (o : Effect). isSound (o .state)) (job-is good s h) ∙ test-of-sound (onSession job 0 (endJob good) s .1) (session-sound job 0 (endJob good) s (sound-of-test s h))

@@ -18,14 +18,15 @@ use Rattle.protocol.specs.Decode.{decoded, numberOf}
 use Rattle.protocol.specs.Frame.{Reply, refused, Answer, framed}
 use Rattle.protocol.specs.declared.Request.{Request}
 use Rattle.protocol.specs.declared.Request.the-variants.{Count, Enumerate, Open, Read, Write, Commit, Close, Delete, Stat, SessionStat, WriteMeta, Refused}
-use Rattle.state.specs.State.{State, Row, Place, slot, flash, Body, InRange, placeOf, inRow, inBody, cell, cell-indep, cell-steady, FitsRow, FitsBody, row-view-fits, body-view-fits}
+use Rattle.state.specs.State.{State, Row, Place, slot, flash, Body, placeOf, inRow, inBody, cell}
+use Rattle.state.specs.Parts.{InRange, cell-indep, cell-steady, FitsRow, FitsBody, row-view-fits, body-view-fits}
 use Rattle.state.specs.Words.{ident, blob, inUse, Live}
 use Rattle.state.specs.Soundness.{isSound}
 use Rattle.state.specs.Facts.{Session, Sound}
 use Rattle.state.specs.Agree.{sound-of-test, test-of-sound, apart-blobs}
-use Rattle.rules.specs.Store.{Command, read, write, commit, stat, close, writeMeta, outcome}
+use Rattle.rules.specs.Command.{Command, read, write, commit, stat, close, writeMeta, endJob}
 use Rattle.rules.specs.Session.{onPart, onPlace, onRow, Address, by, job, meant, absent, onFound, onSession}
-use Rattle.rules.specs.Respond.{Outcome, answered, respond, silent, jobOutcome}
+use Rattle.rules.specs.Respond.{Effect, answered, respond, silent, jobOutcome}
 use Rattle.rules.specs.Laws.{respond-is, job-is}
 use Rattle.rules.specs.Change.{Proper, put-sound, was}
 use Rattle.guarantees.specs.StorePart.{proper-store}
@@ -34,16 +35,16 @@ use Rattle.guarantees.specs.FlashPart.{proper-flash}
 -- ---- events, and the step that they make
 pub data Event : Type 0 where
   message : ℕ → List ℕ → Event
-  outcome-of : Bool → Event
+  jobEnded : Bool → Event
 
 -- what an event is answered, and what it leaves
-abbrev pub outcomeOn : Event → State → Outcome
-outcomeOn (message t m) s = respond t m s
-outcomeOn (outcome-of good) s = jobOutcome good s
+abbrev pub effectOn : Event → State → Effect
+effectOn (message t m) s = respond t m s
+effectOn (jobEnded good) s = jobOutcome good s
 
 -- code and response bytes, and the state after it
 abbrev pub step : State → Event → Answer × State
-step s e = ((outcomeOn e s .code, outcomeOn e s .response), outcomeOn e s .state)
+step s e = ((effectOn e s .code, effectOn e s .response), effectOn e s .state)
 
 -- ---- whom an event is for
 -- the command that names a session, or a refusal that needs no state, or something else
@@ -59,7 +60,7 @@ deedIn (Enumerate index) t m = other
 deedIn (Open flags b) t m = other
 deedIn (Read session offset n) t m = asks (by session) t (read offset n)
 deedIn (Write session offset start) t m = asks (by session) t (write offset (drop start m))
-deedIn (Commit session len left) t m = asks (by session) t (commit len left)
+deedIn (Commit session len rest) t m = asks (by session) t (commit len rest)
 deedIn (Close session) t m = asks (by session) t close
 deedIn (Delete b) t m = other
 deedIn (Stat b) t m = other
@@ -70,7 +71,7 @@ deedIn (Refused code) t m = early (code .0)
 -- of an event
 abbrev pub deed : Event → Deed
 deed (message t m) = deedIn (decoded m) t m
-deed (outcome-of good) = asks job 0 (outcome good)
+deed (jobEnded good) = asks job 0 (endJob good)
 
 -- the deed names the session that row i has in the state s, or is refused early and so names none
 abbrev pub Names : State → ℕ → Deed → Type 0
@@ -218,7 +219,7 @@ module _ (s₀ : State) (good₀ : Sound s₀) where
   -- the answer as bytes
   abbrev say : Event → Reply → Answer
   say (message t m) r = framed (numberOf (decoded m)) r
-  say (outcome-of good) r = silent r
+  say (jobEnded good) r = silent r
 
   abbrev plain : State → Event → Answer × State
   plain s e = (say e (act (deed e) s .0), act (deed e) s .1)
@@ -240,7 +241,7 @@ module _ (s₀ : State) (good₀ : Sound s₀) where
   message-is (Open flags b) i t m s nm = absurd nm
   message-is (Read session offset n) i t m s nm = refl
   message-is (Write session offset start) i t m s nm = refl
-  message-is (Commit session len left) i t m s nm = refl
+  message-is (Commit session len rest) i t m s nm = refl
   message-is (Close session) i t m s nm = refl
   message-is (Delete b) i t m s nm = absurd nm
   message-is (Stat b) i t m s nm = absurd nm
@@ -248,13 +249,13 @@ module _ (s₀ : State) (good₀ : Sound s₀) where
   message-is (WriteMeta session) i t m s nm = refl
   message-is (Refused code) i t m s nm = refl
 
-  abbrev told : Outcome → Answer × State
+  abbrev told : Effect → Answer × State
   told o = ((o .code, o .response), o .state)
 
   step-is : (i : ℕ) (e : Event) (s : State) → Mine s₀ i e → Since s₀ s → step s e ≡ plain s e
   step-is i (message t m) s o since =
       ap told (respond-is t m s (test-of-sound s (since .good))) ∙ ap (λ (x : Reply × State). (framed (numberOf (decoded m)) (x .0), x .1)) (message-is (decoded m) i t m s (o .1))
-  step-is i (outcome-of good) s o since = ap told (job-is good s (test-of-sound s (since .good)))
+  step-is i (jobEnded good) s o since = ap told (job-is good s (test-of-sound s (since .good)))
 
   step-apart : Apart step (Since s₀) (Mine s₀)
   step-apart = apart-same plain step (Since s₀) (Mine s₀) step-is plain-apart

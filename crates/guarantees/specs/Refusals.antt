@@ -19,15 +19,17 @@ use Rattle.protocol.specs.declared.Blob.{Blob}
 use Rattle.protocol.specs.declared.Blob.the-variants.{Store, Flash, Base, Unknown}
 use Rattle.protocol.specs.declared.Request.{Request}
 use Rattle.protocol.specs.declared.Request.the-variants.{Count, Enumerate, Open, Read, Write, Commit, Close, Delete, Stat, SessionStat, WriteMeta, Refused}
-use Rattle.state.specs.State.{State, Row, Slot, Flash as FlashBody, Place, slot, flash, Body, placeOf, inRow, inBody, cell, cell-steady}
+use Rattle.state.specs.State.{State, Row, Slot, FlashBody, Place, slot, flash, Body, placeOf, inRow, inBody, cell}
+use Rattle.state.specs.Parts.{cell-steady}
 use Rattle.state.specs.Words.{blobOf, statusOf, writes, blob}
 use Rattle.state.specs.Soundness.{isSound}
-use Rattle.rules.specs.Store.{Command, read, write, commit, stat, close, writeMeta, outcome, commitFits, readStore, stored, writeStore, commitWriting, commitStore, onStore}
+use Rattle.rules.specs.Store.{readStore, stored, writeStore, commitWriting, commitStore, onStore}
+use Rattle.rules.specs.Command.{Command, read, write, commit, stat, close, writeMeta, endJob, commitFits}
 use Rattle.rules.specs.Flash.{writeFlash, startable, verifyJob, updateJob, commitKind, commitFlash, closeFlash, jobEnds, onFlash}
 use Rattle.rules.specs.Session.{onPart, onPlace, Address, job, meant, onFound, onSession}
 use Rattle.rules.specs.Sweep.{swept}
 use Rattle.rules.specs.Open.{slotNamed, rowOn, freeRowIn, freeSlotIn, opened, openNew, openFree, openHeld, openNamed, storeFlags, openStore, flashListed, openFlashFree, openFlashQuiet, openFlashListed, flashFlags, openFlash, openBlob, deleteQuiet, deleteNamed, deleteBlob}
-use Rattle.rules.specs.Respond.{Outcome, outcomeOf, unsound, answered, respond, silent, jobOutcome}
+use Rattle.rules.specs.Respond.{Effect, effectOf, unsound, answered, respond, silent, jobOutcome}
 use Rattle.rules.specs.Laws.{cond-has, placed-has}
 
 -- what a refusal leaves as found
@@ -74,7 +76,7 @@ module _ (r : Row) (b : Slot) where
   keep-store t stat = λ h. absurd h
   keep-store t close = λ h. absurd h
   keep-store t writeMeta = λ h. refl
-  keep-store t (outcome g) = λ h. refl
+  keep-store t (endJob g) = λ h. refl
 
 -- ---- the flash session's part
 module _ (r : Row) (b : FlashBody) where
@@ -127,7 +129,7 @@ module _ (r : Row) (b : FlashBody) where
   keep-flash k t stat = λ h. absurd h
   keep-flash k t close = keep-flash-close (eqb (statusOf r) running) k
   keep-flash k t writeMeta = λ h. refl
-  keep-flash k t (outcome g) = keep-job (eqb (statusOf r) running) g
+  keep-flash k t (endJob g) = keep-job (eqb (statusOf r) running) g
 
 keep-part : (p : Place) (t : ℕ) (c : Command) (r : Row) (b : Body p) → Keeps (r, b) (onPart p t c r b)
 keep-part (slot k) t c r b = keep-store r b t c
@@ -217,7 +219,7 @@ leftBy (Enumerate index) t s = s
 leftBy (Open flags b) t s = swept t s
 leftBy (Read session offset n) t s = s
 leftBy (Write session offset start) t s = s
-leftBy (Commit session len left) t s = s
+leftBy (Commit session len rest) t s = s
 leftBy (Close session) t s = s
 leftBy (Delete b) t s = s
 leftBy (Stat b) t s = s
@@ -232,7 +234,7 @@ keep-answered (Enumerate index) t m s = λ h. refl
 keep-answered (Open flags b) t m s = keep-open b flags t m (swept t s)
 keep-answered (Read session offset n) t m s = keep-session _ t _ s
 keep-answered (Write session offset start) t m s = keep-session _ t _ s
-keep-answered (Commit session len left) t m s = keep-session _ t _ s
+keep-answered (Commit session len rest) t m s = keep-session _ t _ s
 keep-answered (Close session) t m s = keep-session _ t _ s
 keep-answered (Delete b) t m s = keep-delete b m s
 keep-answered (Stat b) t m s = λ h. refl
@@ -261,7 +263,7 @@ silent-nothing done = refl
 silent-nothing (reply f) = refl
 
 -- what a refusal leaves
-pub record Nothing (o : Outcome) (s : State) : Type 0 where
+pub record Nothing (o : Effect) (s : State) : Type 0 where
   pub no-response : o .response ≡ []
   pub as-found : o .state ≡ s
 
@@ -275,8 +277,8 @@ pub refused-message : (t : ℕ) (m : List ℕ) (s : State) → respond t m s .co
 unfolding respond
 refused-message t m s = go (isSound s)
   where
-    full : Outcome
-    full = outcomeOf (framed (numberOf (decoded m)) (answered (decoded m) t m s .0)) (answered (decoded m) t m s .1)
+    full : Effect
+    full = effectOf (framed (numberOf (decoded m)) (answered (decoded m) t m s .0)) (answered (decoded m) t m s .1)
 
     go : (y : Bool) → cond y full (unsound s) .code ≢ success → Nothing (cond y full (unsound s)) (leftIn y (decoded m) t s)
     go true h =
@@ -289,9 +291,9 @@ pub refused-job : (good : Bool) (s : State) → jobOutcome good s .code ≢ succ
 unfolding jobOutcome
 refused-job good s = go (isSound s)
   where
-    full : Outcome
-    full = outcomeOf (silent (onSession job 0 (outcome good) s .0)) (onSession job 0 (outcome good) s .1)
+    full : Effect
+    full = effectOf (silent (onSession job 0 (endJob good) s .0)) (onSession job 0 (endJob good) s .1)
 
     go : (y : Bool) → cond y full (unsound s) .code ≢ success → Nothing (cond y full (unsound s)) s
-    go true h = record { no-response = silent-nothing (onSession job 0 (outcome good) s .0); as-found = keep-session job 0 (outcome good) s (refused-silent (onSession job 0 (outcome good) s .0) h) }
+    go true h = record { no-response = silent-nothing (onSession job 0 (endJob good) s .0); as-found = keep-session job 0 (endJob good) s (refused-silent (onSession job 0 (endJob good) s .0) h) }
     go false h = record { no-response = refl; as-found = refl }

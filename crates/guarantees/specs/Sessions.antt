@@ -14,15 +14,17 @@ use Rattle.protocol.specs.Decode.{decoded, numberOf, fieldsAt}
 use Rattle.protocol.specs.Frame.{Reply, done, reply, framed}
 use Rattle.protocol.specs.declared.Request.{Request}
 use Rattle.protocol.specs.declared.Request.the-variants.{Read, Write, Close, SessionStat}
-use Rattle.state.specs.State.{State, Row, Slot, Place, slot, flash, Body, placeOf, inRow, inBody, cell, FitsSlot, FitsRow, cell-get-put, row-view-fits, body-view-fits}
+use Rattle.state.specs.State.{State, Row, Slot, Place, slot, flash, Body, placeOf, inRow, inBody, cell}
+use Rattle.state.specs.Parts.{FitsSlot, FitsRow, cell-get-put, row-view-fits, body-view-fits}
 use Rattle.state.specs.Words.{idOf, blobOf, statusOf, writes, ident, blob, Live, stamped, stampOf, statusIn}
 use Rattle.state.specs.Soundness.{slotAt, isSound}
 use Rattle.state.specs.Facts.{Session, Sound}
 use Rattle.state.specs.Agree.{sound-of-test, test-of-sound, place-slot}
-use Rattle.rules.specs.Store.{Command, read, write, stat, close, Out, stored, writeStore, onStore, seenLength}
+use Rattle.rules.specs.Store.{stored, writeStore, onStore, seenLength}
+use Rattle.rules.specs.Command.{Command, read, write, stat, close, Out}
 use Rattle.rules.specs.Flash.{closeFlash, onFlash}
 use Rattle.rules.specs.Session.{onPart, onPlace, onRow, by, onSession}
-use Rattle.rules.specs.Respond.{Outcome, outcomeOf, answered, respond}
+use Rattle.rules.specs.Respond.{Effect, effectOf, answered, respond}
 use Rattle.rules.specs.Laws.{respond-is, placed-fits}
 use Rattle.rules.specs.Searches.{session-row}
 use Rattle.rules.specs.Change.{Proper, row-new}
@@ -34,10 +36,10 @@ use lib.Seq.{getD-set-other}
 
 -- a message that asks the session of row i for the command c
 asked-of : (t i : ℕ) (m : List ℕ) (q : Request) (c : Command) (s : State) → Sound s → Live i s → decoded m ≡ q → answered q t m s ≡ onSession (by (ident i s)) t c s
-    → respond t m s ≡ outcomeOf (framed (numberOf q) (onRow i t c s .0)) (onRow i t c s .1)
+    → respond t m s ≡ effectOf (framed (numberOf q) (onRow i t c s .0)) (onRow i t c s .1)
 asked-of t i m q c s g l d e =
-    respond-is t m s (test-of-sound s g) ∙ ap (λ (x : Request). outcomeOf (framed (numberOf x) (answered x t m s .0)) (answered x t m s .1)) d
-    ∙ ap (λ (x : Reply × State). outcomeOf (framed (numberOf q) (x .0)) (x .1)) (e ∙ session-row t i c s g l)
+    respond-is t m s (test-of-sound s g) ∙ ap (λ (x : Request). effectOf (framed (numberOf x) (answered x t m s .0)) (answered x t m s .1)) d
+    ∙ ap (λ (x : Reply × State). effectOf (framed (numberOf q) (x .0)) (x .1)) (e ∙ session-row t i c s g l)
 
 -- an identifier has two bytes
 id-small : (p : Place) (r : Row) (b : Body p) → Session p r b → idOf r < sixteenBits
@@ -49,14 +51,14 @@ live-id i s g l = id-small (placeOf (blob i s)) (inRow i .get s) (inBody (placeO
 
 -- ---- Write, then Read
 write-asked : (t i offset : ℕ) (ws : List ℕ) (s : State) → Sound s → Live i s → offset < thirtyTwoBits → length ws ≤ writeMost
-    → respond t (askWrite (ident i s) offset ws) s ≡ outcomeOf (framed writeCommand (onRow i t (write offset ws) s .0)) (onRow i t (write offset ws) s .1)
+    → respond t (askWrite (ident i s) offset ws) s ≡ effectOf (framed writeCommand (onRow i t (write offset ws) s .0)) (onRow i t (write offset ws) s .1)
 unfolding answered
 write-asked t i offset ws s g l ho hw =
     let d = write-decoded (ident i s) offset ws (live-id i s g l) ho hw in
     asked-of t i (askWrite (ident i s) offset ws) (Write (ident i s) offset (fieldsAt + 6)) (write offset ws) s g l (d .0) (ap (λ (x : List ℕ). onSession (by (ident i s)) t (write offset x) s) (d .1))
 
 read-asked : (t i offset n : ℕ) (s : State) → Sound s → Live i s → offset < thirtyTwoBits → n < thirtyTwoBits
-    → respond t (askRead (ident i s) offset n) s ≡ outcomeOf (framed readCommand (onRow i t (read offset n) s .0)) (onRow i t (read offset n) s .1)
+    → respond t (askRead (ident i s) offset n) s ≡ effectOf (framed readCommand (onRow i t (read offset n) s .0)) (onRow i t (read offset n) s .1)
 unfolding answered
 read-asked t i offset n s g l ho hn = asked-of t i (askRead (ident i s) offset n) (Read (ident i s) offset n) (read offset n) s g l (read-decoded (ident i s) offset n (live-id i s g l) ho hn) refl
 
@@ -146,8 +148,8 @@ module _ (n t u i offset : ℕ) (ws : List ℕ) (s : State) (h : Writes n i s) (
   good-now : Sound s′
   good-now = subst (λ (o : Reply × State). Sound (o .1)) place-is (on-row-sound s g i l t (write offset ws))
 
-  written : respond t (askWrite (ident i s) offset ws) s ≡ outcomeOf (framed writeCommand (out .0)) s′
-  written = write-asked t i offset ws s g l small few ∙ ap (λ (x : Reply × State). outcomeOf (framed writeCommand (x .0)) (x .1)) place-is
+  written : respond t (askWrite (ident i s) offset ws) s ≡ effectOf (framed writeCommand (out .0)) s′
+  written = write-asked t i offset ws s g l small few ∙ ap (λ (x : Reply × State). effectOf (framed writeCommand (x .0)) (x .1)) place-is
     where
       small : offset < thirtyTwoBits
       small = let z = slot-size in omega arith
@@ -158,8 +160,8 @@ module _ (n t u i offset : ℕ) (ws : List ℕ) (s : State) (h : Writes n i s) (
       ∙ ap (λ (c : Row × Slot). onStore u (read offset (length ws)) (c .0) (c .1) .0) part-now
       ∙ read-after-write t u offset r b (row-fits .four) (body-fits .1 .staged-long) (h .writing) ws (omega arith) taken-done
 
-  then-read : respond u (askRead (ident i s) offset (length ws)) s′ ≡ outcomeOf (framed readCommand (onRow i u (read offset (length ws)) s′ .0)) (onRow i u (read offset (length ws)) s′ .1)
-  then-read = subst (λ (id : ℕ). respond u (askRead id offset (length ws)) s′ ≡ outcomeOf (framed readCommand (onRow i u (read offset (length ws)) s′ .0)) (onRow i u (read offset (length ws)) s′ .1)) id-now
+  then-read : respond u (askRead (ident i s) offset (length ws)) s′ ≡ effectOf (framed readCommand (onRow i u (read offset (length ws)) s′ .0)) (onRow i u (read offset (length ws)) s′ .1)
+  then-read = subst (λ (id : ℕ). respond u (askRead id offset (length ws)) s′ ≡ effectOf (framed readCommand (onRow i u (read offset (length ws)) s′ .0)) (onRow i u (read offset (length ws)) s′ .1)) id-now
       (read-asked u i offset (length ws) s′ good-now live-now (let z = slot-size in omega arith) (omega arith))
 
   -- A WRITE THAT FITS IS ACCEPTED, AND A READ OF THE SAME BYTES AFTER IT SHOWS THEM, on whole messages
@@ -167,9 +169,9 @@ module _ (n t u i offset : ℕ) (ws : List ℕ) (s : State) (h : Writes n i s) (
   write-then-read =
       let f = reply-frame readCommand (onRow i u (read offset (length ws)) s′ .0) ws shown in
       let m = askRead (ident i s) offset (length ws) in record {
-        write-code = ap (λ (o : Outcome). o .code) written ∙ done-code writeCommand (out .0) taken-done;
-        read-code = ap (λ (o : Outcome). respond u m (o .state) .code) written ∙ ap (λ (o : Outcome). o .code) then-read ∙ f .0;
-        read-response = ap (λ (o : Outcome). respond u m (o .state) .response) written ∙ ap (λ (o : Outcome). o .response) then-read ∙ f .1;
+        write-code = ap (λ (o : Effect). o .code) written ∙ done-code writeCommand (out .0) taken-done;
+        read-code = ap (λ (o : Effect). respond u m (o .state) .code) written ∙ ap (λ (o : Effect). o .code) then-read ∙ f .0;
+        read-response = ap (λ (o : Effect). respond u m (o .state) .response) written ∙ ap (λ (o : Effect). o .response) then-read ∙ f .1;
       }
 
 -- ---- SessionStat, then Close
@@ -183,11 +185,11 @@ unfolding onStore onFlash closeFlash framed
 close-on (slot k) t r b n = refl
 close-on flash t r b n = ap (λ (y : Bool). framed closeCommand (closeFlash y (kindOf (blobOf r)) r b .0) .0) (ne-eqb (statusOf r) running n)
 
-stat-asked : (t i : ℕ) (s : State) → Sound s → Live i s → respond t (askSessionStat (ident i s)) s ≡ outcomeOf (framed sessionStatCommand (onRow i t stat s .0)) (onRow i t stat s .1)
+stat-asked : (t i : ℕ) (s : State) → Sound s → Live i s → respond t (askSessionStat (ident i s)) s ≡ effectOf (framed sessionStatCommand (onRow i t stat s .0)) (onRow i t stat s .1)
 unfolding answered
 stat-asked t i s g l = asked-of t i (askSessionStat (ident i s)) (SessionStat (ident i s)) stat s g l (stat-decoded (ident i s) (live-id i s g l)) refl
 
-close-asked : (t i : ℕ) (s : State) → Sound s → Live i s → respond t (askClose (ident i s)) s ≡ outcomeOf (framed closeCommand (onRow i t close s .0)) (onRow i t close s .1)
+close-asked : (t i : ℕ) (s : State) → Sound s → Live i s → respond t (askClose (ident i s)) s ≡ effectOf (framed closeCommand (onRow i t close s .0)) (onRow i t close s .1)
 unfolding answered
 close-asked t i s g l = asked-of t i (askClose (ident i s)) (Close (ident i s)) close s g l (close-decoded (ident i s) (live-id i s g l)) refl
 
@@ -195,10 +197,10 @@ close-asked t i s g l = asked-of t i (askClose (ident i s)) (Close (ident i s)) 
 pub stat-then-close : (t u i : ℕ) (s : State) → isSound s ≡ true → Live i s → statusOf (inRow i .get s) ≢ running
     → (respond t (askSessionStat (ident i s)) s .code ≡ success) × (respond u (askClose (ident i s)) (respond t (askSessionStat (ident i s)) s .state) .code ≡ success)
 stat-then-close t u i s h l n = (
-  ap (λ (o : Outcome). o .code) first-is ∙ stat-on p t r (inBody p .get s) .0,
-  ap (λ (o : Outcome). respond u (askClose (ident i s)) (o .state) .code) first-is
+  ap (λ (o : Effect). o .code) first-is ∙ stat-on p t r (inBody p .get s) .0,
+  ap (λ (o : Effect). respond u (askClose (ident i s)) (o .state) .code) first-is
       ∙ subst (λ (id : ℕ). respond u (askClose id) s₁ .code ≡ success) id-now
-      (ap (λ (o : Outcome). o .code) (close-asked u i s₁ (on-row-sound s g i l t stat) live-now) ∙ close-on (placeOf (blob i s₁)) u (inRow i .get s₁) (inBody (placeOf (blob i s₁)) .get s₁) still),
+      (ap (λ (o : Effect). o .code) (close-asked u i s₁ (on-row-sound s g i l t stat) live-now) ∙ close-on (placeOf (blob i s₁)) u (inRow i .get s₁) (inBody (placeOf (blob i s₁)) .get s₁) still),
 )
   where
     g : Sound s
@@ -213,7 +215,7 @@ stat-then-close t u i s h l n = (
     s₁ : State
     s₁ = onRow i t stat s .1
 
-    first-is : respond t (askSessionStat (ident i s)) s ≡ outcomeOf (framed sessionStatCommand (onRow i t stat s .0)) (onRow i t stat s .1)
+    first-is : respond t (askSessionStat (ident i s)) s ≡ effectOf (framed sessionStatCommand (onRow i t stat s .0)) (onRow i t stat s .1)
     first-is = stat-asked t i s g l
 
     fine : Proper (placeOf (blob i s)) (inRow i .get s) (onPart (placeOf (blob i s)) t stat (inRow i .get s) (inBody (placeOf (blob i s)) .get s) .1 .0) (inBody (placeOf (blob i s)) .get s)

@@ -10,11 +10,13 @@ use lib.Seq.{sets, length-sets, getD-set-other, getD-set-same}
 use lib.Dec.{eqb}
 use borrow.Author.Tests.{eqb-true, eqb-false}
 use Rattle.protocol.specs.Numbers.{rowWords, statusUnit, slotCount, nameSize, slotSize}
-use Rattle.state.specs.State.{Row, Slot, slot, FitsRow, FitsSlot}
+use Rattle.state.specs.State.{Row, Slot, slot}
+use Rattle.state.specs.Parts.{FitsRow, FitsSlot}
 use Rattle.state.specs.Words.{idOf, blobOf, wordOf, stampOf, flagsIn, statusIn, cleanIn, writingIn, wordWith, writes, stamped, withClean, freeRow, freeSlot, flags-with, status-with, clean-with, word-with}
 use Rattle.state.specs.Facts.{StoreFacts, StoreSession, StoreIdle}
 use Rattle.state.specs.Fresh.{free-idle}
-use Rattle.rules.specs.Store.{Command, read, write, commit, stat, close, writeMeta, outcome, withStaged, Out, readStore, stored, writeStore, commitFits, committedSlot, commitWriting, commitStore, closedWriting, closedSlot, onStore}
+use Rattle.rules.specs.Store.{withStaged, readStore, stored, writeStore, committedSlot, commitWriting, commitStore, closedWriting, closedSlot, onStore}
+use Rattle.rules.specs.Command.{Command, read, write, commit, stat, close, writeMeta, endJob, Out, commitFits}
 use Rattle.rules.specs.Laws.{placed-has}
 use Rattle.rules.specs.Change.{Proper}
 
@@ -183,4 +185,4 @@ module _ (k : ℕ) (low : k < slotCount) (r : Row) (b : Slot) (fr : FitsRow r) (
   proper-store t stat = touched t
   proper-store t close = on-close (writes r) refl
   proper-store t writeMeta = same
-  proper-store t (outcome g) = same
+  proper-store t (endJob g) = same

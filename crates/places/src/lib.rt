@@ -1,4 +1,4 @@
-// Where a store name stands, and which identifier a new session gets. (Rows are looked up by `buffers::find_row`, free places by `state::mask::lowest_free`.)
+// Where a store name stands, and which identifier a new session gets. (Rows are looked up by `memory_slots::find_row`, free places by `state::mask::lowest_free`.)
 ghost use mathlib.Core.Path.{_≡_};
 ghost use Prim.Native.Nat.{_+_, _*_, _≤_, _<_};
 ghost use lib.ListN.{length, getD};
@@ -9,12 +9,12 @@ ghost use Rattle.protocol.specs.Numbers.{rowCount, slotCount, nameSize, sixteen
 ghost use Rattle.state.specs.Answers.{optionOf};
 ghost use Rattle.state.specs.State.{State, withRows};
 ghost use Rattle.state.specs.Lent.{TableLent, NamesLent};
-ghost use Rattle.buffers.specs.Lookup.{sought};
-ghost use Rattle.buffers.specs.declared.Wanted.the-variants.{Id};
+ghost use Rattle.memory_slots.specs.Lookup.{sought};
+ghost use Rattle.memory_slots.specs.declared.Wanted.the-variants.{Id};
 ghost use Rattle.rules.specs.Open.{after, freshFrom, flashListed};
 ghost use Rattle.places.specs.Search.{holds, isNone};
-use buffers::Wanted;
-use buffers::find_row;
+use memory_slots::Wanted;
+use memory_slots::find_row;
 use protocol::FlashKind;
 use state::NAME_SIZE;
 use state::Phase;

@@ -6,7 +6,8 @@ use Prim.Native.Nat.{ℕ, _<_}
 use native.Mathlib.Omega.{arith}
 use native.Mathlib.Decide.{ℕ-discrete}
 use Rattle.protocol.specs.Numbers.{rowCount, slotCount, rowWords, sixteenBits}
-use Rattle.state.specs.State.{State, Row, Slot, Place, slot, flash, Body, Separate, InRange, placeOf, inRow, inBody, cell, Shape, FitsRow, FitsBody, cell-shape, cell-get-put, cell-row-other, cell-body-other}
+use Rattle.state.specs.State.{State, Row, Slot, Place, slot, flash, Body, placeOf, inRow, inBody, cell}
+use Rattle.state.specs.Parts.{Separate, InRange, Shape, FitsRow, FitsBody, cell-shape, cell-get-put, cell-row-other, cell-body-other}
 use Rattle.state.specs.Words.{idOf, blobOf, ident, blob, Live}
 use Rattle.state.specs.Soundness.{slotAt}
 use Rattle.state.specs.Facts.{Session, Unheld, Sound}

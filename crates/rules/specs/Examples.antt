@@ -20,17 +20,19 @@ use Rattle.protocol.specs.Names.{base, flashFolder, flashWord, nameForm, blobNa
 use Rattle.protocol.specs.declared.Blob.{Blob}
 use Rattle.protocol.specs.declared.Request.{Request}
 use Rattle.protocol.specs.declared.Request.the-variants.{Count, Open, Read, Write}
-use Rattle.state.specs.State.{State, Row, Slot, Place, slot, inRow, inBody, FitsSlot, body-view-fits}
+use Rattle.state.specs.State.{State, Row, Slot, Place, slot, inRow, inBody}
+use Rattle.state.specs.Parts.{FitsSlot, body-view-fits}
 use Rattle.state.specs.Words.{blobOf, stampOf, statusOf, writes, ident, blob, Live, freeRow, fresh}
 use Rattle.state.specs.Soundness.{slotAt, isSound}
 use Rattle.state.specs.Agree.{sound-of-test, place-slot}
 use Rattle.state.specs.Fresh.{fresh-sound}
-use Rattle.rules.specs.Store.{Command, read, write, Out, seenBytes, seenLength, readStore, placed, stored, writeStore, onStore, readCount}
+use Rattle.rules.specs.Store.{seenBytes, seenLength, readStore, stored, writeStore, onStore, readCount}
+use Rattle.rules.specs.Command.{Command, read, write, Out, placed}
 use Rattle.rules.specs.Session.{onPlace, by, onSession}
 use Rattle.rules.specs.Sweep.{stale, sweepRows, noted, swept}
 use Rattle.rules.specs.Open.{flashListed, openBlob}
 use Rattle.rules.specs.Listing.{committedNames, flashNames, listed, count}
-use Rattle.rules.specs.Respond.{Outcome, outcomeOf, answered, respond}
+use Rattle.rules.specs.Respond.{Effect, effectOf, answered, respond}
 use Rattle.rules.specs.Laws.{respond-is, placed-fits, placed-over, placed-beyond}
 use Rattle.rules.specs.Searches.{session-row}
 use Rattle.protocol.specs.declared.Blob.the-variants.{Store, Base}
@@ -114,8 +116,8 @@ reply-is : (t : ℕ) (m : List ℕ) (s : State) (q : Request) (x : Reply) → is
     → (respond t m s .code ≡ framed (numberOf q) x .0) × (respond t m s .response ≡ framed (numberOf q) x .1)
 reply-is t m s q x h e f =
     let g : framed (numberOf (decoded m)) (answered (decoded m) t m s .0) ≡ framed (numberOf q) x = ap (λ (r : Request). framed (numberOf r) (answered r t m s .0)) e ∙ ap (framed (numberOf q)) f in (
-      ap (λ (o : Outcome). o .code) (respond-is t m s h) ∙ ap (λ (y : Answer). y .0) g,
-      ap (λ (o : Outcome). o .response) (respond-is t m s h) ∙ ap (λ (y : Answer). y .1) g,
+      ap (λ (o : Effect). o .code) (respond-is t m s h) ∙ ap (λ (y : Answer). y .0) g,
+      ap (λ (o : Effect). o .response) (respond-is t m s h) ∙ ap (λ (y : Answer). y .1) g,
     )
 
 -- ---- Count
@@ -128,14 +130,14 @@ pub count-answer : (t : ℕ) (s : State) → isSound s ≡ true → respond t (h
 unfolding answered framed
 count-answer t s h =
     respond-is t (header countCommand) s h
-    ∙ ap (λ (q : Request). outcomeOf (framed (numberOf q) (answered q t (header countCommand) s .0)) (answered q t (header countCommand) s .1)) count-decoded
+    ∙ ap (λ (q : Request). effectOf (framed (numberOf q) (answered q t (header countCommand) s .0)) (answered q t (header countCommand) s .1)) count-decoded
 
 counted-fresh : count fresh ≡ 4
 unfolding listed committedNames flashNames flashListed fresh
 counted-fresh = refl
 
 fresh-counts : (t : ℕ) → respond t (header countCommand) fresh ≡ record { code = success; response = sent countCommand (bytesOf 4 4); state = fresh }
-fresh-counts t = count-answer t fresh fresh-sound ∙ ap (λ (n : ℕ). outcomeOf (success, sent countCommand (bytesOf 4 n)) fresh) counted-fresh
+fresh-counts t = count-answer t fresh fresh-sound ∙ ap (λ (n : ℕ). effectOf (success, sent countCommand (bytesOf 4 n)) fresh) counted-fresh
 
 -- ---- Read
 -- a store session's identifier has two bytes, and its region is whole
@@ -260,7 +262,7 @@ module _ (t i : ℕ) (s : State) (h : Stamped i s) (late : leb sweepEvery t ≡ 
 module _ (t flags : ℕ) (b : Blob) (m : List ℕ) (s : State) (h : isSound s ≡ true) (d : decoded m ≡ Open flags b) where
   open-state : respond t m s .state ≡ openBlob b flags t m (swept t s) .1
   unfolding answered
-  open-state = ap (λ (o : Outcome). o .state) (respond-is t m s h) ∙ ap (λ (q : Request). answered q t m s .1) d
+  open-state = ap (λ (o : Effect). o .state) (respond-is t m s h) ∙ ap (λ (q : Request). answered q t m s .1) d
 
   open-answer : respond t m s .code ≡ framed openCommand (openBlob b flags t m (swept t s) .0) .0
   unfolding answered

@@ -21,10 +21,11 @@ use Rattle.protocol.specs.Frame.{Reply, refused, done, reply, statFields, heade
 use Rattle.protocol.specs.declared.FlashKind.{FlashKind}
 use Rattle.protocol.specs.declared.FlashKind.the-variants.{Image, Hash, Verify, Update, Cleanup}
 use Rattle.state.specs.declared.Phase.the-variants.{Uploading}
-use Rattle.state.specs.State.{State, Row, Slot, Flash, Place, slot, flash, Body}
+use Rattle.state.specs.State.{State, Row, Slot, FlashBody, Place, slot, flash, Body}
 use Rattle.state.specs.Words.{wordOf, stampOf, flagsIn, statusOf, wordWith, writes, writingIn, stamped, withClean, flags-with, blobOf}
 use Rattle.state.specs.Soundness.{slotAt, isSound}
-use Rattle.rules.specs.Store.{Command, read, write, commit, stat, close, writeMeta, outcome, Out, refuse, readCount, readStore, stored, writeStore, onStore, seenLength, stateBits, bytesAfter, lengthAfter, withStaged, seenBytes, commitFits, commitWriting, commitStore}
+use Rattle.rules.specs.Store.{readCount, readStore, stored, writeStore, onStore, seenLength, withStaged, seenBytes, commitWriting, commitStore}
+use Rattle.rules.specs.Command.{Command, read, write, commit, stat, close, writeMeta, endJob, Out, refuse, stateBits, bytesAfter, lengthAfter, commitFits}
 use Rattle.rules.specs.Session.{job, meant, onPart}
 use Rattle.rules.specs.Open.{slotNamed, freshId, after, opened, openFlash, openFlashListed, openFlashQuiet, openFlashFree, flashFlags, openedFlash, flashListed, freeRowIn}
 use Rattle.rules.specs.Laws.{cond-has, placed-has}
@@ -33,7 +34,7 @@ use Rattle.rules.specs.Situations.{writer, writer-slot, other-slot}
 use Rattle.rules.specs.Flash.{writeFlash, startable, verifyJob, updateJob, commitKind, commitFlash, onFlash}
 use Rattle.rules.specs.Examples.{count-answer}
 use Rattle.rules.specs.Counting.{flashCount, count-is}
-use Rattle.rules.specs.Respond.{Outcome, respond}
+use Rattle.rules.specs.Respond.{Effect, respond}
 use Rattle.state.specs.Agree.{sound-of-test}
 use lib.Count.{ones}
 
@@ -78,7 +79,7 @@ module _ (t u offset : ℕ) (r : Row) (b : Slot) (four : length (r .words) ≡ r
 -- COUNT SENDS ONE FOR `/scan/`, ONE FOR EACH BIT OF THE MASK OF COMMITTED SLOTS, AND THE FLASH NAMES OF THE PHASE
 pub count-from-masks : (t : ℕ) (s : State) → isSound s ≡ true → respond t (header countCommand) s .response ≡ sent countCommand (bytesOf 4 (suc (ones (s .store .marks) + flashCount (s .flashGroup .phase))))
 count-from-masks t s h =
-    ap (λ (o : Outcome). o .response) (count-answer t s h) ∙ ap (λ (n : ℕ). sent countCommand (bytesOf 4 n)) (count-is s (sound-of-test s h .shape .marks-small))
+    ap (λ (o : Effect). o .response) (count-answer t s h) ∙ ap (λ (n : ℕ). sent countCommand (bytesOf 4 n)) (count-is s (sound-of-test s h .shape .marks-small))
 
 size-sent : (state size : ℕ) → size < thirtyTwoBits → little 4 2 (statFields state size) ≡ size
 unfolding statFields little bytesOf
@@ -142,7 +143,7 @@ Uploads Cleanup = false
 abbrev pub NowUploading : Reply × State → Type 0
 NowUploading o = (f : List ℕ) → o .0 ≡ reply f → o .1 .flashGroup .phase ≡ Uploading
 
-opened-uploading : (k : FlashKind) (b : Flash) → Uploads k ≡ true → openedFlash k b .phase ≡ Uploading
+opened-uploading : (k : FlashKind) (b : FlashBody) → Uploads k ≡ true → openedFlash k b .phase ≡ Uploading
 unfolding openedFlash
 opened-uploading Image b h = refl
 opened-uploading Hash b h = refl
@@ -176,11 +177,11 @@ opening-uploads k flags t s h =
 abbrev pub Lasting : Command → Type 0
 Lasting (read offset n) = Unit {0}
 Lasting (write offset ws) = Unit {0}
-Lasting (commit len left) = Unit {0}
+Lasting (commit len rest) = Unit {0}
 Lasting stat = Unit {0}
 Lasting close = ⊥
 Lasting writeMeta = Unit {0}
-Lasting (outcome good) = ⊥
+Lasting (endJob good) = ⊥
 
 -- where the command is accepted, the row's stamp is the greater of what it was and the clock
 abbrev pub Lifted : ℕ → Row → {B : Type 0} → Out B → Type 0
@@ -226,13 +227,13 @@ module _ (t : ℕ) (r : Row) (four : length (r .words) ≡ rowWords) where
     unfolding onStore readStore
     store-lifts (read offset n) l = λ h. lifted
     store-lifts (write offset ws) l = write-lifts (writes r) ws offset
-    store-lifts (commit len left) l = commit-lifts (commitFits len left)
+    store-lifts (commit len rest) l = commit-lifts (commitFits len rest)
     store-lifts stat l = λ h. lifted
     store-lifts close l = absurd l
     store-lifts writeMeta l = no-stamp b notSupported
-    store-lifts (outcome good) l = absurd l
+    store-lifts (endJob good) l = absurd l
 
-  module _ (b : Flash) where
+  module _ (b : FlashBody) where
     flash-write-lifts : (k : FlashKind) (ws : List ℕ) (offset : ℕ) → Lifted t r (writeFlash k ws t offset r b)
     unfolding writeFlash
     flash-write-lifts Image ws offset = placed-has imageSize (b .imageLen) offset (length ws) r b _ (Lifted t r) (λ (h : offset ≤ b .imageLen) (l : offset + length ws ≤ imageSize) x. lifted) (no-stamp b)
@@ -268,11 +269,11 @@ module _ (t : ℕ) (r : Row) (four : length (r .words) ≡ rowWords) where
     unfolding onFlash
     flash-lifts k (read offset n) l = no-stamp b notSupported
     flash-lifts k (write offset ws) l = flash-write-lifts k ws offset
-    flash-lifts k (commit len left) l = flash-commit-lifts (commitFits len left) k
+    flash-lifts k (commit len rest) l = flash-commit-lifts (commitFits len rest) k
     flash-lifts k stat l = λ h. lifted
     flash-lifts k close l = absurd l
     flash-lifts k writeMeta l = no-stamp b notSupported
-    flash-lifts k (outcome good) l = absurd l
+    flash-lifts k (endJob good) l = absurd l
 
   -- AN ACCEPTED COMMAND LIFTS ITS OWN ROW'S STAMP TO THE CLOCK, FROM WHAT THAT ROW HAD; in the state it sees and changes no other row: `by-own-part` and `other-rows` of Laws
   pub own-stamp : (p : Place) (c : Command) (b : Body p) → Lasting c → Lifted t r (onPart p t c r b)

@@ -1,3 +1,4 @@
+pub mod Command
 pub mod Store
 pub mod Flash
 pub mod Session

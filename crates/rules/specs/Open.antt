@@ -18,7 +18,7 @@ use Rattle.protocol.specs.declared.Blob.{Blob}
 use Rattle.protocol.specs.declared.Blob.the-variants.{Store, Flash, Base, Unknown}
 use Rattle.state.specs.declared.Phase.{Phase}
 use Rattle.state.specs.declared.Phase.the-variants.{Uploading}
-use Rattle.state.specs.State.{State, Row, Slot, Flash as FlashBody, Place, slot, flash, Body, inBody, cell}
+use Rattle.state.specs.State.{State, Row, Slot, FlashBody, Place, slot, flash, Body, inBody, cell}
 use Rattle.state.specs.Words.{wordWith, freeSlot, blob, inUse}
 use Rattle.state.specs.Soundness.{slotAt, isIdle, isVerified}
 use Rattle.rules.specs.Store.{withStaged}

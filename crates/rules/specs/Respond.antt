@@ -11,20 +11,20 @@ use Rattle.protocol.specs.declared.Request.{Request}
 use Rattle.protocol.specs.declared.Request.the-variants.{Count, Enumerate, Open, Read, Write, Commit, Close, Delete, Stat, SessionStat, WriteMeta, Refused}
 use Rattle.state.specs.State.{State}
 use Rattle.state.specs.Soundness.{isSound}
-use Rattle.rules.specs.Store.{read, write, commit, stat, close, writeMeta, outcome}
+use Rattle.rules.specs.Command.{read, write, commit, stat, close, writeMeta, endJob}
 use Rattle.rules.specs.Session.{by, job, onSession}
 use Rattle.rules.specs.Sweep.{swept}
 use Rattle.rules.specs.Open.{openBlob, deleteBlob, statBlob}
 use Rattle.rules.specs.Listing.{counted, enumerated}
 
 -- the completion code, the response's bytes, and the state after it
-pub record Outcome : Type 0 where
+pub record Effect : Type 0 where
   pub code : ℕ
   pub response : List ℕ
   pub state : State
 
-abbrev pub outcomeOf : Answer → State → Outcome
-outcomeOf a s = record { code = a .0; response = a .1; state = s }
+abbrev pub effectOf : Answer → State → Effect
+effectOf a s = record { code = a .0; response = a .1; state = s }
 
 -- each command; t is the clock and m the message, where Write's bytes and the names stand
 unfoldable pub answered : Request → ℕ → List ℕ → State → Reply × State
@@ -33,7 +33,7 @@ answered (Enumerate index) t m s = (enumerated index s, s)
 answered (Open flags blob) t m s = openBlob blob flags t m (swept t s)
 answered (Read session offset count) t m s = onSession (by session) t (read offset count) s
 answered (Write session offset start) t m s = onSession (by session) t (write offset (drop start m)) s
-answered (Commit session length left) t m s = onSession (by session) t (commit length left) s
+answered (Commit session len rest) t m s = onSession (by session) t (commit len rest) s
 answered (Close session) t m s = onSession (by session) t close s
 answered (Delete blob) t m s = deleteBlob blob m s
 answered (Stat blob) t m s = (statBlob blob m s, s)
@@ -42,12 +42,12 @@ answered (WriteMeta session) t m s = onSession (by session) t writeMeta s
 answered (Refused code) t m s = (refused (code .0), s)
 
 -- "FF: state not sound", before all else; a refusal leaves the state
-abbrev pub unsound : State → Outcome
-unsound s = outcomeOf (notSound, []) s
+abbrev pub unsound : State → Effect
+unsound s = effectOf (notSound, []) s
 
 -- a message at the clock t
-unfoldable pub respond : ℕ → List ℕ → State → Outcome
-respond t m s = cond (isSound s) (outcomeOf (framed (numberOf (decoded m)) (answered (decoded m) t m s .0)) (answered (decoded m) t m s .1)) (unsound s)
+unfoldable pub respond : ℕ → List ℕ → State → Effect
+respond t m s = cond (isSound s) (effectOf (framed (numberOf (decoded m)) (answered (decoded m) t m s .0)) (answered (decoded m) t m s .1)) (unsound s)
 
 -- "code 00, no response"
 unfoldable pub silent : Reply → Answer
@@ -56,8 +56,8 @@ silent done = (success, [])
 silent (reply f) = (success, [])
 
 -- a job outcome, good or failed; it has no clock, and no stamp changes
-unfoldable pub jobOutcome : Bool → State → Outcome
-jobOutcome good s = cond (isSound s) (outcomeOf (silent (onSession job 0 (outcome good) s .0)) (onSession job 0 (outcome good) s .1)) (unsound s)
+unfoldable pub jobOutcome : Bool → State → Effect
+jobOutcome good s = cond (isSound s) (effectOf (silent (onSession job 0 (endJob good) s .0)) (onSession job 0 (endJob good) s .1)) (unsound s)
 
 -- ---- the answer buffer
 -- what a call leaves: completion code, response length, state, answer buffer
@@ -68,7 +68,7 @@ pub record Served : Type 0 where
   pub answer : List ℕ
 
 -- "A success writes the response at the front of the answer buffer and keeps the bytes behind it."
-abbrev pub servedWith : Outcome → List ℕ → Served
+abbrev pub servedWith : Effect → List ℕ → Served
 servedWith o a = record { code = o .code; len = length (o .response); state = o .state; answer = laid (o .response) a }
 
 -- THE LIBRARY'S FUNCTION: a message at the clock t, the state and the answer buffer; the buffer is lent too, and its length must be exact

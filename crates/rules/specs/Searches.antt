@@ -17,7 +17,7 @@ use Rattle.state.specs.Words.{ident, blob, inUse, Live}
 use Rattle.state.specs.Soundness.{slotAt}
 use Rattle.state.specs.Facts.{Sound}
 use Rattle.state.specs.Agree.{apart-blobs}
-use Rattle.rules.specs.Store.{Command}
+use Rattle.rules.specs.Command.{Command}
 use Rattle.rules.specs.Session.{Address, by, job, meant, onRow, onFound, onSession}
 use Rattle.rules.specs.Open.{slotNamed, rowOn, freeRowIn, freeSlotIn}
 

@@ -11,7 +11,8 @@ use Rattle.laws.specs.Bits.{bit, bit-zero}
 use Rattle.laws.specs.Bytes.{same, firstZero, padded, padded-length, same-false}
 use Rattle.protocol.specs.Numbers.{slotCount, nameSize, slotSize, readWrite, rowWords, imageSize, hashSize, writeOnly, imageBlob}
 use Rattle.protocol.specs.Names.{base, alnum, storeName, storeField, kindOf}
-use Rattle.state.specs.State.{State, Row, Slot, slot, inRow, cell, FitsSlot, cell-get-put, cell-row-other, cell-body-other, Place, Flash, flash, Body, Separate, placeOf, FitsBody, row-put}
+use Rattle.state.specs.State.{State, Row, Slot, slot, inRow, cell, Place, FlashBody, flash, Body, placeOf}
+use Rattle.state.specs.Parts.{FitsSlot, cell-get-put, cell-row-other, cell-body-other, Separate, FitsBody, row-put}
 use Rattle.state.specs.Words.{Live, fresh, idOf, blobOf, ident}
 use Rattle.state.specs.Soundness.{slotAt, isSound}
 use Rattle.state.specs.Facts.{StoreSession, Sound, PhaseOk, FlashSession, Session}
@@ -196,7 +197,7 @@ abbrev pub imageRow : Row
 imageRow = newRow 1 imageBlob writeOnly 0 100
 
 -- the flash with an image just opened
-abbrev pub newImage : Flash
+abbrev pub newImage : FlashBody
 newImage = record { phase = Uploading; image = replicate imageSize 0; hash = replicate hashSize 0; imageLen = 0; hashLen = 0 }
 
 -- the two sessions

@@ -1,33 +1,15 @@
 -- What a command does on the part of a store session: its row and its slot.
-use mathlib.Core.Bool.{Bool, true, false, cond, _&&_, _||_}
+use mathlib.Core.Bool.{Bool, true, false, cond}
 use mathlib.Core.List.{List, [], _∷_}
-use Prim.Native.Nat.{ℕ, _+_, _-_, _%_, max, min}
-use lib.Dec.{eqb, leb}
+use Prim.Native.Nat.{ℕ, _-_, min}
+use lib.Dec.{eqb}
 use lib.ListN.{length, replicate}
-use lib.Seq.{sets}
 use Rattle.laws.specs.Ranges.{part}
-use Rattle.protocol.specs.Numbers.{slotSize, readMost, running, succeeded, failed, invalid, outOfRange, tooLong, notSupported, stateCommitting, stateCommitted, stateCommitError}
-use Rattle.protocol.specs.Frame.{Reply, refused, done, reply, statFields}
+use Rattle.protocol.specs.Numbers.{slotSize, readMost, invalid, notSupported}
+use Rattle.protocol.specs.Frame.{done, reply, statFields}
 use Rattle.state.specs.State.{Row, Slot}
-use Rattle.state.specs.Words.{wordOf, flagsIn, statusIn, cleanIn, writes, stamped, withClean, freeRow, freeSlot}
-
--- what a session is asked; a job outcome, which is no message, is asked of the flash session
-pub data Command : Type 0 where
-  read : ℕ → ℕ → Command
-  write : ℕ → List ℕ → Command
-  commit : ℕ → ℕ → Command
-  stat : Command
-  close : Command
-  writeMeta : Command
-  outcome : Bool → Command
-
--- what a command answers, and what it leaves of the session's row and body
-abbrev pub Out : Type 0 → Type 0
-Out B = Reply × (Row × B)
-
--- a refusal leaves the part as found
-abbrev pub refuse : {B : Type 0} → ℕ → Row → B → Out B
-refuse code r b = (refused code, (r, b))
+use Rattle.state.specs.Words.{wordOf, writes, stamped, withClean, freeRow, freeSlot}
+use Rattle.rules.specs.Command.{Command, read, write, commit, stat, close, writeMeta, endJob, Out, refuse, placed, bytesAfter, lengthAfter, commitFits, stateBits}
 
 -- ---- Read: "A read-only session sees committed bytes, a writing one staged bytes"
 abbrev pub seenBytes : Bool → Slot → List ℕ
@@ -43,18 +25,6 @@ readCount requested offset len = min requested (min readMost (len - offset))
 unfoldable pub readStore : Bool → ℕ → ℕ → ℕ → Row → Slot → Out Slot
 readStore writing t offset n r b = (reply (part offset (readCount n offset (seenLength writing b)) (seenBytes writing b)), (stamped t r, b))
 
--- ---- Write, of n bytes at an offset into a region: "offset above length (C9); end above capacity (C8)"; else what it does
-unfoldable pub placed : {B : Type 0} → ℕ → ℕ → ℕ → ℕ → Row → B → Out B → Out B
-placed capacity len offset n r b accepted = cond (leb offset len) (cond (leb (offset + n) capacity) accepted (refuse tooLong r b)) (refuse outOfRange r b)
-
--- "Only the addressed bytes change"
-abbrev pub bytesAfter : List ℕ → ℕ → List ℕ → List ℕ
-bytesAfter ws offset region = sets region offset ws
-
--- "length becomes the greater of itself and the end"
-abbrev pub lengthAfter : List ℕ → ℕ → ℕ → ℕ
-lengthAfter ws offset len = max len (offset + length ws)
-
 -- the slot with other staged bytes and length
 abbrev pub withStaged : List ℕ → ℕ → Slot → Slot
 withStaged l n b = record { name = b .name; committedBytes = b .committedBytes; stagedBytes = l; held = b .held; mark = b .mark; committedLen = b .committedLen; stagedLen = n }
@@ -69,10 +39,6 @@ stored (w ∷ ws) t offset r b =
 unfoldable pub writeStore : Bool → List ℕ → ℕ → ℕ → Row → Slot → Out Slot
 writeStore true ws t offset r b = placed slotSize (b .stagedLen) offset (length ws) r b (stored ws t offset r b)
 writeStore false ws t offset r b = refuse notSupported r b
-
--- ---- Commit: "length byte must equal the bytes after it and be 0 (CC)"
-abbrev pub commitFits : ℕ → ℕ → Bool
-commitFits len left = eqb len left && eqb len 0
 
 -- "the staged region and length become the committed ones, slot committed, clean"
 abbrev pub committedSlot : Slot → Slot
@@ -96,14 +62,6 @@ unfoldable pub closedSlot : Bool → Slot → Slot
 closedSlot true b = closedWriting (eqb (b .mark) 1) b
 closedSlot false b = b
 
--- ---- SessionStat: "Bits 0 and 1 are the session's flags; 2, 3, 4 are status 1, 2, 3; bit 3 is also clean"
-unfoldable pub stateBits : ℕ → ℕ
-stateBits w =
-    flagsIn w % 4
-    + (cond (eqb (statusIn w) running) stateCommitting 0
-    + (cond (eqb (statusIn w) succeeded || eqb (cleanIn w) 1) stateCommitted 0
-    + cond (eqb (statusIn w) failed) stateCommitError 0))
-
 -- "Size: session's view"
 abbrev pub statStore : Row → Slot → List ℕ
 statStore r b = statFields (stateBits (wordOf r)) (seenLength (writes r) b)
@@ -112,8 +70,8 @@ statStore r b = statFields (stateBits (wordOf r)) (seenLength (writes r) b)
 unfoldable pub onStore : ℕ → Command → Row → Slot → Out Slot
 onStore t (read offset n) r b = readStore (writes r) t offset n r b
 onStore t (write offset ws) r b = writeStore (writes r) ws t offset r b
-onStore t (commit len left) r b = commitStore (commitFits len left) t r b
+onStore t (commit len rest) r b = commitStore (commitFits len rest) t r b
 onStore t stat r b = (reply (statStore r b), (stamped t r, b))
 onStore t close r b = (done, (freeRow, closedSlot (writes r) b))
 onStore t writeMeta r b = refuse notSupported r b
-onStore t (outcome good) r b = refuse notSupported r b
+onStore t (endJob good) r b = refuse notSupported r b

@@ -5,7 +5,7 @@ use lib.Dec.{eqb, leb, ltb}
 use Rattle.protocol.specs.Numbers.{rowCount, sweepEvery, sessionLife, running}
 use Rattle.state.specs.State.{State, Row, inRow}
 use Rattle.state.specs.Words.{stampOf, statusOf, inUse}
-use Rattle.rules.specs.Store.{close}
+use Rattle.rules.specs.Command.{close}
 use Rattle.rules.specs.Session.{onRow}
 
 -- the session is over its time, and no job runs

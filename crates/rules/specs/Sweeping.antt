@@ -15,10 +15,12 @@ use Rattle.protocol.specs.Numbers.{rowCount, running, notFound, invalid, rowWor
 use Rattle.protocol.specs.Frame.{Reply, refused}
 use Rattle.protocol.specs.Names.{kindOf, flashNumber}
 use Rattle.protocol.specs.declared.Blob.{Blob}
-use Rattle.state.specs.State.{State, Row, Place, slot, flash, Body, placeOf, inRow, inBody, FitsRow, cell-row-other, row-put, cell}
+use Rattle.state.specs.State.{State, Row, Place, slot, flash, Body, placeOf, inRow, inBody, cell}
+use Rattle.state.specs.Parts.{FitsRow, cell-row-other, row-put}
 use Rattle.state.specs.Words.{blobOf, stampOf, statusOf, blob, inUse, freeRow}
 use Rattle.state.specs.Soundness.{slotAt}
-use Rattle.rules.specs.Store.{close, onStore}
+use Rattle.rules.specs.Store.{onStore}
+use Rattle.rules.specs.Command.{close}
 use Rattle.rules.specs.Flash.{closeFlash, onFlash}
 use Rattle.rules.specs.Session.{onPart, onRow, meant, job}
 use Rattle.rules.specs.Sweep.{stale, sweepRow, sweepRows, noted, due, swept}

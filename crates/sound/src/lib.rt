@@ -40,7 +40,7 @@ fn values_fit(control: Control) -> bool
     ensures { λ x. ⌜ ((t n c g i h : List ℕ) → x ≡ valuesFit (stateOf control t n c g i h)) ⌝ }
 {
     ((control.rows < SIXTEEN_BITS) & (control.slots < SIXTEEN_BITS))
-        & ((control.committed < SIXTEEN_BITS) & (control.next < SIXTEEN_BITS))
+        & ((control.marks < SIXTEEN_BITS) & (control.next < SIXTEEN_BITS))
 }
 
 // Lengths of image and hash fit; in Idle both are 0.

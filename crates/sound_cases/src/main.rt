@@ -105,8 +105,8 @@ fn step(
         return;
     }
     let what = record[0];
-    let at = reader::u16_at(record, 1) as usize;
-    let value = reader::u32_at(record, 3);
+    let at = request_reader::u16_at(record, 1) as usize;
+    let value = request_reader::u32_at(record, 3);
     let low = record[3];
     if what == 0 {
         put_word(words, at, value);

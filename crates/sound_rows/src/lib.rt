@@ -68,7 +68,7 @@ fn used_row(control: Control, e: Entry) -> bool
     let fits = (e.id < SIXTEEN_BITS) & (e.word < WORD_LIMIT);
     if e.blob < SLOTS as u32 {
         let k = e.blob as usize;
-        return fits & store_row(e, has(control.slots, k), has(control.committed, k));
+        return fits & store_row(e, has(control.slots, k), has(control.marks, k));
     }
     let phase = control.phase;
     fits & flash_row(e, phase)

@@ -12,9 +12,9 @@ ghost use Rattle.state.specs.State.{State, Slot, stateOf};
 ghost use Rattle.state.specs.Soundness.{usedSlot, unusedSlot, slotOk, namesApart};
 ghost use Rattle.state.specs.Lent.{TableLent, NamesLent, RegionsLent};
 ghost use Rattle.sound_slots.specs.Slots.{withNames, filled};
-use naming::first_zero;
-use naming::same_bytes;
-use naming::store_name;
+use request_names::first_zero;
+use request_names::same_bytes;
+use request_names::store_name;
 use sound_rows::has_writer;
 use state::Control;
 use state::NAME_SIZE;
@@ -133,7 +133,7 @@ fn slot_ok(
     let staged_lens = control.staged_len;
     let committed_len = committed_lens[k];
     let staged_len = staged_lens[k];
-    let mark = bit_of(control.committed, k);
+    let mark = bit_of(control.marks, k);
     if has(control.slots, k) {
         let writer = has_writer(control.rows, table, k as u32);
         return used_slot(names, k, mark, committed_len, staged_len, writer);

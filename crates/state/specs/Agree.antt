@@ -18,7 +18,8 @@ use Rattle.protocol.specs.declared.FlashKind.the-variants.{Image, Hash, Verify,
 use Rattle.protocol.specs.Names.{storeField, kindOf}
 use Rattle.state.specs.declared.Phase.{Phase}
 use Rattle.state.specs.declared.Phase.the-variants.{Idle, Uploading, Verified}
-use Rattle.state.specs.State.{State, Slot, Flash, Place, slot, flash, Separate, InRange, placeOf, inRow, inBody, Shape, FitsSlot, row-view-fits, body-view-fits}
+use Rattle.state.specs.State.{State, Slot, FlashBody, Place, slot, flash, placeOf, inRow, inBody}
+use Rattle.state.specs.Parts.{Separate, InRange, Shape, FitsSlot, row-view-fits, body-view-fits}
 use Rattle.state.specs.Words.{wordOf, flagsIn, statusIn, cleanIn, writingIn, freeSlot, ident, blob, inUse, Live}
 use Rattle.state.specs.Soundness.{slotAt, isIdle, isUploading, isVerified, lentRight, valuesFit, flashFits, storeRow, jobFits, flashRow, usedRow, rowOk, rowsClash, rowsApart, writesSlot, hasWriter, usedSlot, unusedSlot, slotOk, namesApart, isSound}
 use Rattle.state.specs.Facts.{StoreSession, StoreIdle, PhaseOk, FlashIdle, FlashSession, Session, Unheld, Sound}
@@ -83,7 +84,7 @@ job-fits Cleanup st p l h = go (ℕ-discrete st 0)
     go (no n) = let e : st ≡ 2 = let m = h .0 in omega arith in or-right (eqb st 0) (eqb st 2 && isIdle p) (and-both (eqb st 2) (isIdle p) (eq-eqb st 2 e) (ap isIdle (h .1 e)))
 
 -- ---- the flash
-pub flash-ok : (b : Flash) → flashFits b ≡ true → FlashIdle b
+pub flash-ok : (b : FlashBody) → flashFits b ≡ true → FlashIdle b
 unfolding flashFits
 flash-ok b h =
     let a = and-true _ _ h in
@@ -99,7 +100,7 @@ flash-ok b h =
     zero e (this q) = absurd (not-idle-is (b .phase) (not-true _ q) e)
     zero e (that q) = and-true _ _ q
 
-pub flash-fits : (b : Flash) → FlashIdle b → flashFits b ≡ true
+pub flash-fits : (b : FlashBody) → FlashIdle b → flashFits b ≡ true
 unfolding flashFits
 flash-fits b f = and-both _ _ (and-both _ _ (le-leb _ _ (f .image-fits)) (le-leb _ _ (f .hash-fits))) (go (isIdle (b .phase)) refl)
   where

@@ -10,7 +10,8 @@ use Rattle.protocol.specs.declared.FlashKind.the-variants.{Image, Hash, Verify,
 use Rattle.protocol.specs.Names.{storeField, kindOf}
 use Rattle.state.specs.declared.Phase.{Phase}
 use Rattle.state.specs.declared.Phase.the-variants.{Idle, Uploading, Verified}
-use Rattle.state.specs.State.{State, Row, Slot, Flash, Place, slot, flash, Body, Separate, InRange, placeOf, inRow, inBody, Shape}
+use Rattle.state.specs.State.{State, Row, Slot, FlashBody, Place, slot, flash, Body, placeOf, inRow, inBody}
+use Rattle.state.specs.Parts.{Separate, InRange, Shape}
 use Rattle.state.specs.Words.{idOf, blobOf, wordOf, flagsIn, statusIn, cleanIn, writingIn, freeSlot, ident, blob, Live}
 use Rattle.state.specs.Soundness.{slotAt}
 
@@ -51,13 +52,13 @@ PhaseOk Update st p = p ≡ Verified
 PhaseOk Cleanup st p = (st % 2 ≡ 0) × (st ≡ 2 → p ≡ Idle)
 
 -- of the flash, with a session or without
-pub record FlashIdle (b : Flash) : Type 0 where
+pub record FlashIdle (b : FlashBody) : Type 0 where
   pub image-fits : b .imageLen ≤ imageSize
   pub hash-fits : b .hashLen ≤ hashSize
   pub idle-image : b .phase ≡ Idle → b .imageLen ≡ 0
   pub idle-hash : b .phase ≡ Idle → b .hashLen ≡ 0
 
-pub record FlashFacts (id bl w : ℕ) (b : Flash) : Type 0 where
+pub record FlashFacts (id bl w : ℕ) (b : FlashBody) : Type 0 where
   pub id-small : id < sixteenBits
   pub is-flash : slotCount ≤ bl
   pub a-kind : bl ≤ cleanupBlob
@@ -66,7 +67,7 @@ pub record FlashFacts (id bl w : ℕ) (b : Flash) : Type 0 where
   pub phased : PhaseOk (kindOf bl) (statusIn w) (b .phase)
   pub lengths : FlashIdle b
 
-abbrev pub FlashSession : Row → Flash → Type 0
+abbrev pub FlashSession : Row → FlashBody → Type 0
 FlashSession r b = FlashFacts (idOf r) (blobOf r) (wordOf r) b
 
 abbrev pub Session : (p : Place) → Row → Body p → Type 0

@@ -9,7 +9,8 @@ use Rattle.laws.specs.Ranges.{part-replicate, block-fits}
 use Rattle.laws.specs.Bits.{bit, bit-zero}
 use Rattle.protocol.specs.Numbers.{rowCount, slotCount, rowWords, nameSize, slotSize, imageSize, hashSize}
 use Rattle.state.specs.declared.Phase.the-variants.{Idle}
-use Rattle.state.specs.State.{Place, slot, flash, Separate, InRange, placeOf, inBody}
+use Rattle.state.specs.State.{Place, slot, flash, placeOf, inBody}
+use Rattle.state.specs.Parts.{Separate, InRange}
 use Rattle.state.specs.Words.{freeSlot, blob, Live, fresh}
 use Rattle.state.specs.Soundness.{slotAt, isSound}
 use Rattle.state.specs.Facts.{StoreIdle, Unheld, Sound}

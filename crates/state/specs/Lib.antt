@@ -1,4 +1,5 @@
 pub mod State
+pub mod Parts
 pub mod Lent
 pub mod Words
 pub mod Soundness

@@ -11,7 +11,7 @@ use Rattle.protocol.specs.declared.FlashKind.the-variants.{Image, Hash, Verify,
 use Rattle.protocol.specs.Names.{storeField, kindOf}
 use Rattle.state.specs.declared.Phase.{Phase}
 use Rattle.state.specs.declared.Phase.the-variants.{Idle, Uploading, Verified}
-use Rattle.state.specs.State.{State, Row, Slot, Flash, slot, inRow, inBody}
+use Rattle.state.specs.State.{State, Row, Slot, FlashBody, slot, inRow, inBody}
 use Rattle.state.specs.Words.{idOf, blobOf, wordOf, flagsIn, statusIn, cleanIn, ident, blob, inUse}
 
 -- the slot k of the state
@@ -47,7 +47,7 @@ valuesFit s =
     (ltb (s .sessions .rows) sixteenBits && ltb (s .store .slots) sixteenBits) && (ltb (s .store .marks) sixteenBits && ltb (s .next) sixteenBits)
 
 -- "lengths fit", of image and hash; "In Idle both flash lengths are 0"
-unfoldable pub flashFits : Flash → Bool
+unfoldable pub flashFits : FlashBody → Bool
 flashFits b = (leb (b .imageLen) imageSize && leb (b .hashLen) hashSize) && (not (isIdle (b .phase)) || (eqb (b .imageLen) 0 && eqb (b .hashLen) 0))
 
 -- a store row's third word, its slot being in use: "flags are allowed", no status, "Clean stands only on store rows of committed slots, and always on a read-only row"

@@ -8,7 +8,7 @@ abbrev pub inPhase : Control → Phase → Control
 inPhase v p = record {
   rows = v .rows;
   slots = v .slots;
-  committed = v .committed;
+  marks = v .marks;
   «committed_len» = v .«committed_len»;
   «staged_len» = v .«staged_len»;
   phase = p;
@@ -23,7 +23,7 @@ abbrev pub emptied : Control → Control
 emptied v = record {
   rows = v .rows;
   slots = v .slots;
-  committed = v .committed;
+  marks = v .marks;
   «committed_len» = v .«committed_len»;
   «staged_len» = v .«staged_len»;
   phase = Idle;

@@ -8,7 +8,7 @@ use native.Mathlib.Omega.{arith}
 use lib.ListN.{getD, set, replicate}
 use Rattle.protocol.specs.Numbers.{rowCount, slotCount, rowWords, wordLimit, statusUnit, cleanUnit, nameSize, slotSize, imageSize, hashSize}
 use Rattle.state.specs.declared.Phase.the-variants.{Idle}
-use Rattle.state.specs.State.{State, Row, Slot, Flash, inRow}
+use Rattle.state.specs.State.{State, Row, Slot, FlashBody, inRow}
 
 abbrev pub idOf : Row → ℕ
 idOf r = getD (r .words) 0 0
@@ -66,7 +66,7 @@ abbrev pub freeSlot : Slot
 freeSlot = record { name = replicate nameSize 0; committedBytes = replicate slotSize 0; stagedBytes = replicate slotSize 0; held = 0; mark = 0; committedLen = 0; stagedLen = 0 }
 
 -- image and hash zero, Idle
-abbrev pub emptyFlash : Flash
+abbrev pub emptyFlash : FlashBody
 emptyFlash = record { phase = Idle; image = replicate imageSize 0; hash = replicate hashSize 0; imageLen = 0; hashLen = 0 }
 
 -- the identifier and the blob of row r, and whether it is used

@@ -92,7 +92,7 @@ impl Phase {
 pub struct Control {
     pub rows: u32,
     pub slots: u32,
-    pub committed: u32,
+    pub marks: u32,
     pub committed_len: [u32; SLOTS],
     pub staged_len: [u32; SLOTS],
     pub phase: Phase,

@@ -13,7 +13,7 @@ pub fn with_phase(control: Control, phase: Phase) -> Control
     Control {
         rows: control.rows,
         slots: control.slots,
-        committed: control.committed,
+        marks: control.marks,
         committed_len,
         staged_len,
         phase,

@@ -4,8 +4,8 @@ use mathlib.Core.Path.{sym, ap}
 use mathlib.Core.List.{List}
 use Prim.Native.Nat.{ℕ}
 use Rattle.rules.specs.Respond.{silent}
-use Rattle.commands.specs.Left.{replyOf}
-use Rattle.commands.specs.declared.Said.{Said}
+use Rattle.response_types.specs.After.{replyOf}
+use Rattle.response_types.specs.declared.Said.{Said}
 use Rattle.blobs.proofs.code_of.Statement.{statement}
 use Rattle.blobs.proofs.code_of.Tie as tie
 

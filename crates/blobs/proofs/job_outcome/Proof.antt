@@ -19,8 +19,8 @@ same-length c = search needs
 returns : tie.Need-returns
 returns c = no-outcome (c .before .before .before .before .before .before .before .before .before .args .good) (stateOf (c .before .before .before .before .before .before .before .before .before .args .control) (c .before .before .before .before .before .before .before .before .before .args .table .now) (c .before .before .before .before .before .before .before .before .before .args .names .now) (c .before .before .before .before .before .before .before .before .before .args .committed .now) (c .before .before .before .before .before .before .before .before .before .args .staged .now) (c .before .before .before .before .before .before .before .before .before .args .image .now) (c .before .before .before .before .before .before .before .before .before .args .hash .now)) (sym (c .before .sound .ensures) ∙ not-true _ (c .if1 .taken))
 
-outcome-requires : tie.Need-outcome-requires
-outcome-requires c κs = sound-of-test (stateOf (c .before .before .before .before .before .before .before .before .before .before .args .control) (c .before .before .before .before .before .before .before .before .before .before .args .table .now) (c .before .before .before .before .before .before .before .before .before .before .args .names .now) (c .before .before .before .before .before .before .before .before .before .before .args .committed .now) (c .before .before .before .before .before .before .before .before .before .before .args .staged .now) (c .before .before .before .before .before .before .before .before .before .before .args .image .now) (c .before .before .before .before .before .before .before .before .before .before .args .hash .now)) (sym (c .before .before .sound .ensures) ∙ not-false _ (c .before .if1 .left)) .shape .table-size
+end-job-requires : tie.Need-end-job-requires
+end-job-requires c κs = sound-of-test (stateOf (c .before .before .before .before .before .before .before .before .before .before .args .control) (c .before .before .before .before .before .before .before .before .before .before .args .table .now) (c .before .before .before .before .before .before .before .before .before .before .args .names .now) (c .before .before .before .before .before .before .before .before .before .before .args .committed .now) (c .before .before .before .before .before .before .before .before .before .before .args .staged .now) (c .before .before .before .before .before .before .before .before .before .before .args .image .now) (c .before .before .before .before .before .before .before .before .before .before .args .hash .now)) (sym (c .before .before .sound .ensures) ∙ not-false _ (c .before .if1 .left)) .shape .table-size
 
 code-of-requires : tie.Need-code-of-requires
 code-of-requires c κs = search needs
@@ -29,7 +29,7 @@ same-length-2 : tie.Need-same-length-2
 same-length-2 c = search needs
 
 returns-2 : tie.Need-returns-2
-returns-2 c = outcome-taken (c .before .before .before .before .before .before .before .before .before .before .before .before .before .before .args .good) (stateOf (c .before .before .before .before .before .before .before .before .before .before .before .before .before .before .args .control) (c .before .before .before .before .before .before .before .before .before .before .before .before .before .before .args .table .now) (c .before .before .before .before .before .before .before .before .before .before .before .before .before .before .args .names .now) (c .before .before .before .before .before .before .before .before .before .before .before .before .before .before .args .committed .now) (c .before .before .before .before .before .before .before .before .before .before .before .before .before .before .args .staged .now) (c .before .before .before .before .before .before .before .before .before .before .before .before .before .before .args .image .now) (c .before .before .before .before .before .before .before .before .before .before .before .before .before .before .args .hash .now)) (sym (c .before .before .before .before .before .before .sound .ensures) ∙ not-false _ (c .before .before .before .before .before .if1 .left)) _ _ _ (c .before .before .before .outcome .ensures 0 (c .before .before .before .before .before .before .before .before .before .before .before .before .before .before .args .names .now) (c .before .before .before .before .before .before .before .before .before .before .before .before .before .before .args .committed .now) (c .before .before .before .before .before .before .before .before .before .before .before .before .before .before .args .staged .now) (c .before .before .before .before .before .before .before .before .before .before .before .before .before .before .args .image .now) (c .before .before .before .before .before .before .before .before .before .before .before .before .before .before .args .hash .now) []) (c .code-of .ensures [])
+returns-2 c = outcome-taken (c .before .before .before .before .before .before .before .before .before .before .before .before .before .before .args .good) (stateOf (c .before .before .before .before .before .before .before .before .before .before .before .before .before .before .args .control) (c .before .before .before .before .before .before .before .before .before .before .before .before .before .before .args .table .now) (c .before .before .before .before .before .before .before .before .before .before .before .before .before .before .args .names .now) (c .before .before .before .before .before .before .before .before .before .before .before .before .before .before .args .committed .now) (c .before .before .before .before .before .before .before .before .before .before .before .before .before .before .args .staged .now) (c .before .before .before .before .before .before .before .before .before .before .before .before .before .before .args .image .now) (c .before .before .before .before .before .before .before .before .before .before .before .before .before .before .args .hash .now)) (sym (c .before .before .before .before .before .before .sound .ensures) ∙ not-false _ (c .before .before .before .before .before .if1 .left)) _ _ _ (c .before .before .before .end-job .ensures 0 (c .before .before .before .before .before .before .before .before .before .before .before .before .before .before .args .names .now) (c .before .before .before .before .before .before .before .before .before .before .before .before .before .before .args .committed .now) (c .before .before .before .before .before .before .before .before .before .before .before .before .before .before .args .staged .now) (c .before .before .before .before .before .before .before .before .before .before .before .before .before .before .args .image .now) (c .before .before .before .before .before .before .before .before .before .before .before .before .before .before .args .hash .now) []) (c .code-of .ensures [])
 
 pub job-outcome-spec : {M : Type 1} → statement M
 job-outcome-spec =
@@ -38,7 +38,7 @@ job-outcome-spec =
     sound-requires
     same-length
     returns
-    outcome-requires
+    end-job-requires
     code-of-requires
     same-length-2
     returns-2)

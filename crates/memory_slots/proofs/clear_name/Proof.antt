@@ -1,0 +1,25 @@
+-- `clear_name`: from `clear_at`.
+use mathlib.Core.Path.{_∙_}
+use native.Mathlib.Omega.{arith}
+use Prim.Native.Nat.{_-_}
+use Rattle.protocol.specs.Numbers.{nameSize}
+use Rattle.memory_slots.specs.Laws.{block-cleared}
+use Rattle.protocol.specs.Sizes.{name-size}
+use borrow.Author.Needs.{needs}
+use Rattle.memory_slots.proofs.clear_name.Statement.{statement}
+use Rattle.memory_slots.proofs.clear_name.Tie as tie
+
+mul-clear-at : tie.Need-mul-clear-at
+mul-clear-at c = search needs
+
+clear-at-requires : tie.Need-clear-at-requires
+clear-at-requires c κs = omega (arith, name-size)
+
+same-length : tie.Need-same-length
+same-length c = search needs
+
+returns : tie.Need-returns
+returns c = let a = c .before .before .before .before .before .args in c .before .before .clear-at .ensures ∙ block-cleared nameSize 32 name-size (a .k) (a .names .now)
+
+pub clear-name-spec : {M : Type 1} → statement M
+clear-name-spec = tie.close (tie.spec mul-clear-at clear-at-requires same-length returns)

@@ -1,0 +1,66 @@
+-- `put_name`: from `copy_at`, lent a part of the message, then `clear_at`.
+use mathlib.Core.Path.{_∙_, ap}
+use native.Mathlib.Omega.{arith}
+use mathlib.Core.List.{List}
+use Prim.Native.Nat.{ℕ, _+_, _*_, _-_}
+use lib.ListN.{replicate}
+use lib.Seq.{sets}
+use Rattle.protocol.specs.Numbers.{nameSize}
+use Rattle.memory_slots.specs.Laws.{block-named}
+use Rattle.protocol.specs.Sizes.{name-size}
+use borrow.Author.Needs.{needs}
+use Rattle.memory_slots.proofs.put_name.Statement.{statement}
+use Rattle.memory_slots.proofs.put_name.Tie as tie
+
+mul-at : tie.Need-mul-at
+mul-at c = search needs
+
+add-end : tie.Need-add-end
+add-end c = search needs
+
+sub-copy-at : tie.Need-sub-copy-at
+sub-copy-at c = search needs
+
+part-copy-at-start : tie.Need-part-copy-at-start
+part-copy-at-start c = search needs
+
+part-copy-at-end : tie.Need-part-copy-at-end
+part-copy-at-end c = search needs
+
+copy-at-requires : tie.Need-copy-at-requires
+copy-at-requires c κs = search (needs, name-size)
+
+add-clear-at : tie.Need-add-clear-at
+add-clear-at c = search needs
+
+sub-clear-at : tie.Need-sub-clear-at
+sub-clear-at c = omega (arith, name-size)
+
+clear-at-requires : tie.Need-clear-at-requires
+clear-at-requires c κs = search (needs, name-size)
+
+same-length : tie.Need-same-length
+same-length c = search needs
+
+returns : tie.Need-returns
+returns c =
+    let a = c .before .before .before .before .before .before .before .before .before .before .before .args in
+    c .before .before .clear-at .ensures
+    ∙ ap (λ (l : List ℕ). sets l (a .k * 32 + a .len) (replicate (32 - a .len) 0)) (c .before .before .before .before .before .before .copy-at .ensures)
+    ∙ block-named nameSize 32 name-size (a .k) (a .names .now) (a .start) (a .len) (a .message .now) (omega (arith, name-size)) (omega arith)
+
+pub put-name-spec : {M : Type 1} → statement M
+put-name-spec =
+    tie.close
+    (tie.spec
+    mul-at
+    add-end
+    sub-copy-at
+    part-copy-at-start
+    part-copy-at-end
+    copy-at-requires
+    add-clear-at
+    sub-clear-at
+    clear-at-requires
+    same-length
+    returns)

@@ -1,0 +1,127 @@
+// Work on lent memory: a slot's regions and name, a slot freed, the row of a session looked up.
+ghost use mathlib.Core.Path.{_≡_};
+ghost use mathlib.Core.List.{List};
+ghost use Prim.Native.Nat.{ℕ, _+_, _*_, _≤_, _<_};
+ghost use lib.ListN.{length, replicate};
+ghost use Rattle.laws.specs.Ranges.{part, block};
+ghost use Rattle.laws.specs.Bytes.{padded};
+ghost use Rattle.laws.specs.Find.{first};
+ghost use Rattle.protocol.specs.Numbers.{rowCount, slotCount, nameSize, slotSize};
+ghost use Rattle.state.specs.Answers.{optionOf};
+ghost use Rattle.state.specs.Entry.{wordsOf};
+ghost use Rattle.state.specs.State.{stateOf, inBody, slot};
+ghost use Rattle.state.specs.Words.{freeSlot};
+ghost use Rattle.state.specs.Lent.{TableLent, NamesLent, RegionsLent};
+ghost use Rattle.memory_slots.specs.Lookup.{fits, sought};
+use memory_copy::clear_at;
+use memory_copy::copy_at;
+use state::Control;
+use state::NAME_SIZE;
+use state::ROWS;
+use state::SLOT_SIZE;
+use state::SLOTS;
+use state::mask::Found;
+use state::mask::clear_bit;
+use state::mask::has;
+use state::row::Entry;
+use state::row::read_row;
+
+// Slot k's region of dst becomes its region of src.
+pub fn copy_region(dst: &mut [u8], src: &[u8], k: usize)
+    requires { ⌜ RegionsLent (now dst) × (RegionsLent (now src) × (k < slotCount)) ⌝ }
+    ensures { λ _. ⌜ now (dst .exit) ≡ block slotSize k .put (block slotSize k .get (now (src .entry))) (now (dst .entry)) ⌝ }
+{
+    let at = k * SLOT_SIZE;
+    let end = at + SLOT_SIZE;
+    copy_at(dst, at, &src[at..end])
+}
+
+// Slot k's region of dst becomes zeros.
+pub fn clear_region(dst: &mut [u8], k: usize)
+    requires { ⌜ RegionsLent (now dst) × (k < slotCount) ⌝ }
+    ensures { λ _. ⌜ now (dst .exit) ≡ block slotSize k .put (replicate slotSize 0) (now (dst .entry)) ⌝ }
+{
+    clear_at(dst, k * SLOT_SIZE, SLOT_SIZE)
+}
+
+// Slot k's name becomes zeros.
+pub fn clear_name(names: &mut [u8], k: usize)
+    requires { ⌜ NamesLent (now names) × (k < slotCount) ⌝ }
+    ensures { λ _. ⌜ now (names .exit) ≡ block nameSize k .put (replicate nameSize 0) (now (names .entry)) ⌝ }
+{
+    clear_at(names, k * NAME_SIZE, NAME_SIZE)
+}
+
+// Slot k's name becomes the len bytes that stand in the message from `start` on, padded by zeros.
+pub fn put_name(names: &mut [u8], k: usize, message: &[u8], start: usize, len: usize)
+    requires { ⌜ NamesLent (now names) × ((k < slotCount) × ((len ≤ nameSize) × (start + len ≤ length (now message)))) ⌝ }
+    ensures { λ _. ⌜ now (names .exit) ≡ block nameSize k .put (padded nameSize (part start len (now (message .entry)))) (now (names .entry)) ⌝ }
+{
+    let at = k * NAME_SIZE;
+    let end = start + len;
+    copy_at(names, at, &message[start..end]);
+    clear_at(names, at + len, NAME_SIZE - len)
+}
+
+// Slot k becomes free: its name, its marks, its lengths and both regions are zeroed.
+pub fn free_slot(
+    k: usize,
+    control: Control,
+    names: &mut [u8],
+    committed: &mut [u8],
+    staged: &mut [u8],
+) -> Control
+    requires { ⌜ (k < slotCount) × (NamesLent (now names) × (RegionsLent (now committed) × RegionsLent (now staged))) ⌝ }
+    ensures { λ v. ⌜ ((table image hash : List ℕ) → stateOf v table (now (names .exit)) (now (committed .exit)) (now (staged .exit)) image hash ≡ inBody (slot k) .put freeSlot (stateOf control table (now (names .entry)) (now (committed .entry)) (now (staged .entry)) image hash)) ⌝ }
+{
+    clear_name(names, k);
+    clear_region(committed, k);
+    clear_region(staged, k);
+    let mut next = control;
+    next.slots = clear_bit(control.slots, k);
+    next.marks = clear_bit(control.marks, k);
+    next.committed_len[k] = 0;
+    next.staged_len[k] = 0;
+    next
+}
+
+// The row that is looked for: the session of an identifier, the session on a blob, or the flash session.
+pub enum Wanted {
+    Id(u32),
+    Blob(u32),
+    Flash,
+}
+
+// The row is the one wanted, if it is used.
+fn fits(e: Entry, wanted: Wanted) -> bool
+    ensures { λ x. ⌜ x ≡ fits wanted (wordsOf e) ⌝ }
+{
+    match wanted {
+        Wanted::Id(id) => e.id == id,
+        Wanted::Blob(blob) => e.blob == blob,
+        Wanted::Flash => SLOTS as u32 <= e.blob,
+    }
+}
+
+// Row r is used and the one wanted.
+fn is_sought(table: &[u32], rows: u32, wanted: Wanted, r: usize) -> bool
+    requires { ⌜ TableLent (now table) × (r < rowCount) ⌝ }
+    ensures { λ x. ⌜ x ≡ sought wanted (now (table .entry)) rows r ⌝ }
+{
+    has(rows, r) & fits(read_row(table, r), wanted)
+}
+
+// The first used row that is the one wanted.
+pub fn find_row(table: &[u32], rows: u32, wanted: Wanted) -> Found
+    requires { ⌜ TableLent (now table) ⌝ }
+    ensures { λ f. ⌜ optionOf f ≡ first (sought wanted (now (table .entry)) rows) rowCount ⌝ }
+{
+    let mut r: usize = 0;
+    while r < ROWS {
+        if is_sought(table, rows, wanted, r) {
+            return Found::At(r);
+        }
+        r += 1;
+    }
+    Found::Nothing
+}

@@ -1,0 +1,99 @@
+-- `delete_store`: the name is not held, its blob is open, or its slot is freed.
+use mathlib.Core.Path.{sym, _∙_, ap}
+use native.Mathlib.Omega.{arith}
+use Prim.Native.Nat.{_<_}
+use Rattle.laws.specs.Ranges.{part}
+use Rattle.laws.specs.Find.{found}
+use Rattle.protocol.specs.Numbers.{slotCount}
+use Rattle.protocol.specs.Frame.{done}
+use Rattle.state.specs.State.{State, stateOf}
+use Rattle.state.specs.Answers.{optionOf}
+use Rattle.places.specs.Search.{holds}
+use Rattle.name_delete.specs.Laws.{delete-none, delete-busy, delete-ok}
+use borrow.Author.Needs.{needs}
+use Rattle.name_delete.proofs.delete_store.Statement.{statement}
+use Rattle.name_delete.proofs.delete_store.Tie as tie
+
+find-name-requires : tie.Need-find-name-requires
+find-name-requires c κs = search needs
+
+enum-known-k : tie.Need-enum-known-k
+enum-known-k c = search needs
+
+enum-told : tie.Need-enum-told
+enum-told c = search needs
+
+same-length : tie.Need-same-length
+same-length c = search needs
+
+returns : tie.Need-returns
+returns c =
+    λ i h _.
+    let a = c .before .before .before .before .before .before .before .before .before .args in
+    delete-none (a .start) (a .len) (a .message .now) (stateOf (a .control) (a .table .now) (a .names .now) (a .committed .now) (a .staged .now) i h) (sym (c .before .before .find-name .ensures) ∙ ap optionOf (c .enum-told .given .1))
+
+cast-t17 : tie.Need-cast-t17
+cast-t17 c =
+    let a = c .before .before .before .before .before .before .before .before .before .before .args in
+    let l : c .before .k .given .0 .0 < slotCount = found (holds (part (a .start) (a .len) (a .message .now)) (a .names .now) (a .control .slots)) slotCount (c .before .k .given .0 .0) (sym (c .before .before .before .find-name .ensures) ∙ ap optionOf (c .before .k .given .1)) .low in
+    omega arith
+
+find-row-requires : tie.Need-find-row-requires
+find-row-requires c κs = search needs
+
+enum-told-2 : tie.Need-enum-told-2
+enum-told-2 c = search needs
+
+enum-told-3 : tie.Need-enum-told-3
+enum-told-3 c = search needs
+
+same-length-2 : tie.Need-same-length-2
+same-length-2 c = search needs
+
+returns-2 : tie.Need-returns-2
+returns-2 c =
+    λ i h _.
+    let a = c .before .before .before .before .before .before .before .before .before .before .before .before .before .args in
+    delete-busy (a .start) (a .len) (a .message .now) (stateOf (a .control) (a .table .now) (a .names .now) (a .committed .now) (a .staged .now) i h) (c .before .before .before .before .k .given .0 .0) (sym (c .before .before .before .before .before .before .find-name .ensures) ∙ ap optionOf (c .before .before .before .before .k .given .1)) _ (sym (c .before .before .find-row .ensures) ∙ ap optionOf (c .enum-told3 .given .1))
+
+free-slot-requires : tie.Need-free-slot-requires
+free-slot-requires c κs =
+    let a = c .before .before .before .before .before .before .before .before .before .before .before .before .before .before .before .before .args in
+    (found (holds (part (a .start) (a .len) (a .message .now)) (a .names .now) (a .control .slots)) slotCount (c .before .before .before .before .before .before .before .k .given .0 .0) (sym (c .before .before .before .before .before .before .before .before .before .find-name .ensures) ∙ ap optionOf (c .before .before .before .before .before .before .before .k .given .1)) .low, search needs)
+
+same-length-3 : tie.Need-same-length-3
+same-length-3 c = search needs
+
+same-length-4 : tie.Need-same-length-4
+same-length-4 c = search needs
+
+same-length-5 : tie.Need-same-length-5
+same-length-5 c = search needs
+
+returns-3 : tie.Need-returns-3
+returns-3 c =
+    λ i h _.
+    let a = c .before .before .before .before .before .before .before .before .before .before .before .before .before .before .before .before .before .before .before .before .before .before .before .args in
+    ap (λ (x : State). (done, x)) (c .before .before .before .before .before .before .free-slot .ensures (a .table .now) i h)
+    ∙ delete-ok (a .start) (a .len) (a .message .now) (stateOf (a .control) (a .table .now) (a .names .now) (a .committed .now) (a .staged .now) i h) (c .before .before .before .before .before .before .before .before .before .before .before .before .before .before .k .given .0 .0) (sym (c .before .before .before .before .before .before .before .before .before .before .before .before .before .before .before .before .find-name .ensures) ∙ ap optionOf (c .before .before .before .before .before .before .before .before .before .before .before .before .before .before .k .given .1)) (sym (c .before .before .before .before .before .before .before .before .before .before .before .before .find-row .ensures) ∙ ap optionOf (c .before .before .before .before .before .before .before .before .before .before .enum-told2 .given .1))
+
+pub delete-store-spec : {M : Type 1} → statement M
+delete-store-spec =
+    tie.close
+    (tie.spec
+    find-name-requires
+    enum-known-k
+    enum-told
+    same-length
+    returns
+    cast-t17
+    find-row-requires
+    enum-told-2
+    enum-told-3
+    same-length-2
+    returns-2
+    free-slot-requires
+    same-length-3
+    same-length-4
+    same-length-5
+    returns-3)

@@ -1,0 +1,205 @@
+-- Laws of the list of names. Assumes nothing.
+use mathlib.Core.Path.{_≡_, refl, sym, _∙_, ap}
+use mathlib.Core.Bool.{Bool, true, false, cond}
+use mathlib.Core.List.{List, [], _∷_, _++_}
+use Prim.Native.Nat.{ℕ, zero, suc, _+_, _*_, _-_, _≤_, _<_}
+use native.Mathlib.Nat.{add-zero, add-suc, min-le-left}
+use native.Mathlib.Omega.{arith}
+use native.Mathlib.Decide.{decLt}
+use lib.Count.{ones, onesIn}
+use lib.Dec.{eqb, ltb}
+use borrow.Author.Tests.{ne-eqb, lt-ltb, le-ltb}
+use lib.ListN.{length, getD, set, take, drop, length-take, length-append, List·getD-append}
+use lib.Seq.{sets, take-take, getD-append-add, getD-append-seam}
+use Rattle.laws.specs.Ranges.{part, block, part-sets, sets-append}
+use Rattle.laws.specs.Bits.{bit, bit-lt}
+use Rattle.laws.specs.Bytes.{text, firstZero}
+use Rattle.laws.specs.Masks.{ones-more, ones-in}
+use Rattle.protocol.specs.Numbers.{slotCount, sixteenBits, outOfRange}
+use Rattle.protocol.specs.Names.{base, kindOf}
+use Rattle.protocol.specs.Frame.{Reply, refused, reply}
+use Rattle.protocol.specs.declared.FlashKind.the-variants.{Cleanup}
+use Rattle.state.specs.declared.Phase.{Phase}
+use Rattle.state.specs.declared.Phase.the-variants.{Idle, Uploading, Verified}
+use Rattle.state.specs.State.{State}
+use Rattle.state.specs.Soundness.{slotAt}
+use Rattle.rules.specs.Open.{flashListed}
+use Rattle.rules.specs.Listing.{only, committedNames, flashNames, listed, enumerated}
+use Rattle.rules.specs.Counting.{flashCount, committed-count, flash-count}
+use Rattle.name_list.specs.declared.Listed.the-variants.{Base, Slot, Flash, Outside}
+use Rattle.name_list.specs.Listed.{Nth, flashAt, InStore, listedReply}
+
+-- ---- the search for the bit number i: its start, and its end at the last place
+pub ones-start : (m : ℕ) → onesIn 0 m ≡ 0
+unfolding onesIn
+ones-start m = refl
+
+one-more : (a b t i : ℕ) → a + b ≡ t → a ≤ i → i < t → b < 2 → (b ≡ 1) × (a ≡ i)
+one-more a b t i e h l q = (omega arith, omega arith)
+
+pub nth-last : (m i k : ℕ) → m < sixteenBits → i < ones m → suc k ≡ slotCount → onesIn k m ≤ i → Nth m i k
+nth-last m i k h l e q =
+    let t : onesIn k m + bit k m ≡ ones m = sym (ones-more k m) ∙ ap (λ (n : ℕ). onesIn n m) e ∙ ones-in slotCount m h in
+    let p = one-more (onesIn k m) (bit k m) (ones m) i t q l (bit-lt k m) in
+    record { low = omega arith; is-set = p .0; below = p .1 }
+
+-- ---- the committed names by number
+ones-mono : (n d m : ℕ) → onesIn n m ≤ onesIn (n + d) m
+ones-mono n zero m = rw add-zero (omega arith)
+ones-mono n (suc d) m = rw add-suc (omega (arith, ones-mono n d m, ones-more (n + d) m))
+
+only-set : (b : ℕ) (n : List ℕ) → b ≡ 1 → only (eqb b 1) n ≡ n ∷ []
+only-set b n h = rw h
+
+at-last : (k : ℕ) (s : State) → bit k (s .store .marks) ≡ 1
+    → getD (committedNames (suc k) s) (onesIn k (s .store .marks)) [] ≡ text (slotAt k s .name)
+unfolding committedNames
+at-last k s h =
+    ap (λ (i : ℕ). getD (committedNames k s ++ only (eqb (bit k (s .store .marks)) 1) (text (slotAt k s .name))) i []) (sym (committed-count k s))
+    ∙ ap (λ (l : List (List ℕ)). getD (committedNames k s ++ l) (length (committedNames k s)) []) (only-set (bit k (s .store .marks)) (text (slotAt k s .name)) h)
+    ∙ getD-append-seam (committedNames k s) (text (slotAt k s .name)) [] []
+
+name-stays : (n d i : ℕ) (s : State) → i < length (committedNames n s) → getD (committedNames (n + d) s) i [] ≡ getD (committedNames n s) i []
+unfolding committedNames
+name-stays n zero i s h = rw add-zero
+name-stays n (suc d) i s h =
+    let l : length (committedNames n s) ≤ length (committedNames (n + d) s) =
+    omega (arith, committed-count n s, committed-count (n + d) s, ones-mono n d (s .store .marks))
+    in
+    rw add-suc
+    (List·getD-append (committedNames (n + d) s) (only (eqb (slotAt (n + d) s .mark) 1) (text (slotAt (n + d) s .name))) [] i (omega arith)
+    ∙ name-stays n d i s h)
+
+name-at : (i k : ℕ) (s : State) → Nth (s .store .marks) i k → getD (committedNames slotCount s) i [] ≡ text (slotAt k s .name)
+name-at i k s p =
+    let e : slotCount ≡ suc k + (slotCount - suc k) = omega (arith, p .low) in
+    let l : i < length (committedNames (suc k) s) = omega (arith, committed-count (suc k) s, ones-more k (s .store .marks), p .is-set, p .below) in
+    ap (λ (n : ℕ). getD (committedNames n s) i []) e
+    ∙ name-stays (suc k) (slotCount - suc k) i s l
+    ∙ ap (λ (j : ℕ). getD (committedNames (suc k) s) j []) (sym (p .below))
+    ∙ at-last k s (p .is-set)
+
+-- ---- the reply to number i of a list, and of two lists one behind the other
+unfoldable pub replyAt : List (List ℕ) → ℕ → Reply
+replyAt l i = cond (ltb i (length l)) (reply (getD l i [] ++ (0 ∷ []))) (refused outOfRange)
+
+ltb-shift : (a i n : ℕ) → ltb (a + i) (a + n) ≡ ltb i n
+ltb-shift a i n = go (decLt i n)
+  where
+    go : Dec (i < n) → ltb (a + i) (a + n) ≡ ltb i n
+    go (yes h) = lt-ltb (a + i) (a + n) (omega arith) ∙ sym (lt-ltb i n h)
+    go (no h) = le-ltb (a + i) (a + n) (omega arith) ∙ sym (le-ltb i n (omega arith))
+
+reply-behind : (a b : List (List ℕ)) (i n : ℕ) → i ≡ length a + n → replyAt (a ++ b) i ≡ replyAt b n
+unfolding replyAt
+reply-behind a b i n e = rw (e, length-append a b, ltb-shift (length a) n (length b), getD-append-add a b n [])
+
+reply-inside : (a b : List (List ℕ)) (i : ℕ) (x : List ℕ) → i < length a → getD a i [] ≡ x → replyAt (a ++ b) i ≡ reply (x ++ (0 ∷ []))
+unfolding replyAt
+reply-inside a b i x h e =
+    let q : i < length a + length b = omega arith in
+    rw (length-append a b, lt-ltb i (length a + length b) q, List·getD-append a b [] i h, e)
+
+-- ---- the flash names by number
+pub one-listed : (p : Phase) → 1 ≤ flashCount p
+one-listed Idle = omega arith
+one-listed Uploading = omega arith
+one-listed Verified = omega arith
+
+pub few-listed : (p : Phase) → flashCount p ≤ 5
+few-listed Idle = omega arith
+few-listed Uploading = omega arith
+few-listed Verified = omega arith
+
+flash-far : (p : Phase) (i : ℕ) (names : List ℕ) → flashCount p ≤ i → listedReply (flashAt p i) names ≡ replyAt (flashNames p) i
+unfolding replyAt
+flash-far p i names h =
+    let a : ltb i (flashCount p - 1) ≡ false = le-ltb i (flashCount p - 1) (omega arith) in
+    let b : eqb i (flashCount p - 1) ≡ false = ne-eqb i (flashCount p - 1) (λ (e : i ≡ flashCount p - 1). omega (arith, one-listed p)) in
+    let d : ltb i (length (flashNames p)) ≡ false = le-ltb i (length (flashNames p)) (rw (flash-count p) h) in
+    rw (a, b, d)
+
+pub flash-in-store : (p : Phase) (i : ℕ) → InStore (flashAt p i)
+flash-in-store p i = go (ltb i (flashCount p - 1)) (eqb i (flashCount p - 1))
+  where
+    go : (x y : Bool) → InStore (cond x (Flash (kindOf (slotCount + i))) (cond y (Flash Cleanup) Outside))
+    go true y = tt
+    go false true = tt
+    go false false = tt
+
+flash-reply : (p : Phase) (i : ℕ) (names : List ℕ) → listedReply (flashAt p i) names ≡ replyAt (flashNames p) i
+unfolding flashNames flashListed replyAt kindOf
+flash-reply Idle zero names = refl
+flash-reply Idle (suc zero) names = refl
+flash-reply Idle (suc (suc zero)) names = refl
+flash-reply Idle (suc (suc (suc i))) names = flash-far Idle (suc (suc (suc i))) names (omega arith)
+flash-reply Uploading zero names = refl
+flash-reply Uploading (suc zero) names = refl
+flash-reply Uploading (suc (suc zero)) names = refl
+flash-reply Uploading (suc (suc (suc zero))) names = refl
+flash-reply Uploading (suc (suc (suc (suc i)))) names = flash-far Uploading (suc (suc (suc (suc i)))) names (omega arith)
+flash-reply Verified zero names = refl
+flash-reply Verified (suc zero) names = refl
+flash-reply Verified (suc (suc zero)) names = refl
+flash-reply Verified (suc (suc (suc zero))) names = refl
+flash-reply Verified (suc (suc (suc (suc zero)))) names = refl
+flash-reply Verified (suc (suc (suc (suc (suc i))))) names = flash-far Verified (suc (suc (suc (suc (suc i))))) names (omega arith)
+
+-- ---- Enumerate's three ways
+enumerated-is : (i : ℕ) (s : State) → enumerated i s ≡ replyAt ((base ∷ []) ++ (committedNames slotCount s ++ flashNames (s .flashGroup .phase))) i
+unfolding listed replyAt
+enumerated-is i s = refl
+
+module _ (s : State) (i : ℕ) where
+  rest : List (List ℕ)
+  rest = committedNames slotCount s ++ flashNames (s .flashGroup .phase)
+
+  pub enum-base : i ≡ 0 → listedReply Base (s .store .names) ≡ enumerated i s
+  unfolding rest
+  enum-base e = sym (enumerated-is i s ∙ reply-inside (base ∷ []) rest i base (omega arith) (rw e))
+
+  module _ (h : 1 ≤ i) (m : s .store .marks < sixteenBits) where
+    committed-all : length (committedNames slotCount s) ≡ ones (s .store .marks)
+    committed-all = committed-count slotCount s ∙ ones-in slotCount (s .store .marks) m
+
+    pub enum-slot : (k : ℕ) → i - 1 < ones (s .store .marks) → Nth (s .store .marks) (i - 1) k → listedReply (Slot k) (s .store .names) ≡ enumerated i s
+    unfolding rest
+    enum-slot k l p =
+        sym (enumerated-is i s ∙ reply-behind (base ∷ []) rest i (i - 1) (omega arith)
+        ∙ reply-inside (committedNames slotCount s) (flashNames (s .flashGroup .phase)) (i - 1) (text (slotAt k s .name)) (omega (arith, committed-all)) (name-at (i - 1) k s p))
+
+    pub enum-flash : ones (s .store .marks) ≤ i - 1 → listedReply (flashAt (s .flashGroup .phase) (i - 1 - ones (s .store .marks))) (s .store .names) ≡ enumerated i s
+    unfolding rest
+    enum-flash l =
+        flash-reply (s .flashGroup .phase) (i - 1 - ones (s .store .marks)) (s .store .names)
+        ∙ sym (enumerated-is i s ∙ reply-behind (base ∷ []) rest i (i - 1) (omega arith)
+        ∙ reply-behind (committedNames slotCount s) (flashNames (s .flashGroup .phase)) (i - 1) (i - 1 - ones (s .store .marks)) (omega (arith, committed-all)))
+
+-- ---- a name and its NUL in their place
+pub name-laid : (a x : List ℕ) (at : ℕ) → set (sets a at x) (at + length x) 0 ≡ sets a at (x ++ (0 ∷ []))
+name-laid a x at = sym (sets-append x (0 ∷ []) a at)
+
+pub name-read : (a x : List ℕ) (at : ℕ) → at + length x < length a → part at (length x + 1) (sets a at (x ++ (0 ∷ []))) ≡ x ++ (0 ∷ [])
+name-read a x at h =
+    let e : length x + 1 ≡ length (x ++ (0 ∷ [])) = sym (length-append x (0 ∷ [])) in
+    ap (λ (n : ℕ). part at n (sets a at (x ++ (0 ∷ [])))) e ∙ part-sets (x ++ (0 ∷ [])) a at (omega arith)
+
+-- ---- the front of a slot's name field; the code knows the field's size n as the number m, and lends parts by their ends
+module _ (n m : ℕ) (size : n ≡ m) (k : ℕ) (names : List ℕ) where
+  pub field-lent : take (k * m + m - k * m) (drop (k * m) names) ≡ block n k .get names
+  field-lent =
+      let e : k * m + m - k * m ≡ m = omega arith in
+      ap (λ (j : ℕ). take j (drop (k * m) names)) e ∙ ap (λ (j : ℕ). part (k * j) j names) (sym size)
+
+  pub front-short : (z : ℕ) → z ≤ n → length (take (k * m + z - k * m) (drop (k * m) names)) ≤ n
+  front-short z h =
+      let q : k * m + z - k * m ≡ z = omega arith in
+      rw (q, length-take) (omega (arith, min-le-left z (length (drop (k * m) names))))
+
+  pub front-lent : (z : ℕ) → z ≡ firstZero (block n k .get names) → z ≤ n → take (k * m + z - k * m) (drop (k * m) names) ≡ text (block n k .get names)
+  front-lent z e h =
+      let q : k * m + z - k * m ≡ z = omega arith in
+      ap (λ (j : ℕ). take j (drop (k * m) names)) q
+      ∙ ap (λ (j : ℕ). take z (drop (k * j) names)) (sym size)
+      ∙ sym (take-take z n (drop (k * n) names) h)
+      ∙ ap (λ (j : ℕ). take j (part (k * n) n names)) e

@@ -1,0 +1,81 @@
+-- The ways through Stat. Assumes nothing.
+use mathlib.Core.Path.{_≡_, refl, sym, _∙_, ap}
+use mathlib.Core.Bool.{Bool, true, false, cond}
+use mathlib.Core.List.{List}
+use mathlib.Core.Option.{Option, none, some}
+use Prim.Native.Nat.{ℕ, _<_, _≤_}
+use lib.Dec.{eqb}
+use lib.ListN.{getD}
+use Rattle.laws.specs.Ranges.{part, block}
+use Rattle.laws.specs.Bits.{bit}
+use Rattle.laws.specs.Find.{first}
+use Rattle.protocol.specs.Numbers.{slotCount, rowWords, notFound, stateCommitted}
+use Rattle.protocol.specs.Names.{kindOf, flashNumber}
+use Rattle.protocol.specs.Frame.{refused, reply, statFields}
+use Rattle.protocol.specs.declared.Blob.the-variants.{Store, Flash}
+use Rattle.protocol.specs.declared.FlashKind.{FlashKind}
+use Rattle.state.specs.State.{State, Place, slot, flash, placeOf, inBody}
+use Rattle.state.specs.Words.{writingIn}
+use Rattle.state.specs.Entry.{wordsOf}
+use Rattle.state.specs.declared.row.Entry.{Entry}
+use Rattle.state.specs.Agree.{place-slot, place-flash}
+use Rattle.rules.specs.Command.{stateBits}
+use Rattle.rules.specs.Flash.{flashLength}
+use Rattle.rules.specs.Session.{statRow, statPart}
+use Rattle.rules.specs.Open.{statBlob, statNamed, statSlot, statKind, flashListed, rowOn}
+use Rattle.memory_slots.specs.Lookup.{rowSought, by-blob}
+use Rattle.memory_slots.specs.declared.Wanted.the-variants.{Blob}
+use Rattle.places.specs.Search.{holds, slot-named}
+
+-- ---- row r, which was read as e
+module _ (r : ℕ) (s : State) (e : Entry) (words : block rowWords r .get (s .sessions .table) ≡ wordsOf e) where
+  row-stat : (p : Place) → placeOf (e .blob) ≡ p → statPart p (record { words = wordsOf e; used = bit r (s .sessions .rows) }) (inBody p .get s) ≡ statRow r s
+  unfolding statRow
+  row-stat p q = sym (
+      ap (λ (l : List ℕ). statPart (placeOf (getD l 1 0)) (record { words = l; used = bit r (s .sessions .rows) }) (inBody (placeOf (getD l 1 0)) .get s)) words
+      ∙ ap (λ (x : Place). statPart x (record { words = wordsOf e; used = bit r (s .sessions .rows) }) (inBody x .get s)) q
+      )
+
+  pub slot-stat : e .blob < slotCount
+      → statFields (stateBits (e .word)) (cond (eqb (writingIn (e .word)) 1) (getD (s .store .stagedLens) (e .blob) 0) (getD (s .store .committedLens) (e .blob) 0)) ≡ statRow r s
+  slot-stat h = row-stat (slot (e .blob)) (place-slot (e .blob) h)
+
+  pub flash-stat : slotCount ≤ e .blob → statFields (stateBits (e .word)) (flashLength (kindOf (e .blob)) (s .flashGroup)) ≡ statRow r s
+  flash-stat h = row-stat flash (place-flash (e .blob) h)
+
+-- ---- a store name
+module _ (start len : ℕ) (m : List ℕ) (s : State) where
+  named : (o : Option ℕ) → first (holds (part start len m) (s .store .names) (s .store .slots)) slotCount ≡ o → statNamed o s ≡ statBlob (Store start len) m s
+  unfolding statBlob
+  named o e = ap (λ (x : Option ℕ). statNamed x s) (sym (slot-named (part start len m) s ∙ e))
+
+  pub store-none : first (holds (part start len m) (s .store .names) (s .store .slots)) slotCount ≡ none → refused notFound ≡ statBlob (Store start len) m s
+  store-none e = named none e
+
+  module _ (k : ℕ) (e : first (holds (part start len m) (s .store .names) (s .store .slots)) slotCount ≡ some k) where
+    held : (o : Option ℕ) → rowSought (Blob k) s ≡ o → statSlot o k s ≡ statBlob (Store start len) m s
+    held o f = ap (λ (x : Option ℕ). statSlot x k s) (sym (sym (by-blob k s) ∙ f)) ∙ named (some k) e
+
+    pub store-closed : rowSought (Blob k) s ≡ none → reply (statFields stateCommitted (getD (s .store .committedLens) k 0)) ≡ statBlob (Store start len) m s
+    store-closed f = held none f
+
+    pub store-open : (r : ℕ) → rowSought (Blob k) s ≡ some r → reply (statRow r s) ≡ statBlob (Store start len) m s
+    store-open r f = held (some r) f
+
+-- ---- a flash name
+module _ (k : FlashKind) (m : List ℕ) (s : State) where
+  there : (b : Bool) → flashListed k (s .flashGroup .phase) ≡ b → (o : Option ℕ) → rowSought (Blob (flashNumber k)) s ≡ o → cond b (statKind o k s) (refused notFound) ≡ statBlob (Flash k) m s
+  unfolding statBlob
+  there b e o f =
+      ap (λ (x : Option ℕ). cond b (statKind x k s) (refused notFound)) (sym (sym (by-blob (flashNumber k) s) ∙ f))
+      ∙ ap (λ (x : Bool). cond x (statKind (rowOn (flashNumber k) s) k s) (refused notFound)) (sym e)
+
+  pub flash-hidden : flashListed k (s .flashGroup .phase) ≡ false → refused notFound ≡ statBlob (Flash k) m s
+  flash-hidden e = there false e (rowSought (Blob (flashNumber k)) s) refl
+
+  module _ (e : flashListed k (s .flashGroup .phase) ≡ true) where
+    pub flash-closed : rowSought (Blob (flashNumber k)) s ≡ none → reply (statFields 0 (flashLength k (s .flashGroup))) ≡ statBlob (Flash k) m s
+    flash-closed f = there true e none f
+
+    pub flash-open : (r : ℕ) → rowSought (Blob (flashNumber k)) s ≡ some r → reply (statRow r s) ≡ statBlob (Flash k) m s
+    flash-open r f = there true e (some r) f

@@ -1,0 +1,59 @@
+// Open, after the sweep.
+ghost use mathlib.Core.Path.{_≡_};
+ghost use mathlib.Core.Bool.{true};
+ghost use mathlib.Core.List.{List};
+ghost use Prim.Native.Nat.{ℕ};
+ghost use Rattle.protocol.specs.Inside.{BlobInside};
+ghost use Rattle.state.specs.State.{stateOf};
+ghost use Rattle.state.specs.Soundness.{isSound};
+ghost use Rattle.rules.specs.Open.{openBlob};
+ghost use Rattle.response_types.specs.After.{afterAct};
+use open_flash::open_flash;
+use open_store::open_store;
+use protocol::Blob;
+use protocol::Code;
+use response_types::Act;
+use response_types::Said;
+use state::Control;
+
+// Open: by what the name names; unknown or base is CB.
+pub fn open(
+    blob: Blob,
+    flags: u16,
+    clock: u32,
+    message: &[u8],
+    control: Control,
+    table: &mut [u32],
+    names: &mut [u8],
+    committed: &mut [u8],
+    staged: &mut [u8],
+    image: &mut [u8],
+    hash: &mut [u8],
+) -> Act
+    requires { ⌜ BlobInside (now message) blob × (isSound (stateOf control (now table) (now names) (now committed) (now staged) (now image) (now hash)) ≡ true) ⌝ }
+    ensures { λ o. ⌜ ((answer : List ℕ) → afterAct o (now (table .exit)) (now (names .exit)) (now (committed .exit)) (now (staged .exit)) (now (image .exit)) (now (hash .exit)) answer ≡ openBlob blob flags clock (now (message .entry)) (stateOf control (now (table .entry)) (now (names .entry)) (now (committed .entry)) (now (staged .entry)) (now (image .entry)) (now (hash .entry)))) ⌝ }
+{
+    match blob {
+        Blob::Store { start, len } => open_store(
+            start,
+            len,
+            flags,
+            clock,
+            message,
+            control,
+            table,
+            names,
+            committed,
+            staged,
+        ),
+        Blob::Flash(kind) => open_flash(kind, flags, clock, control, table, image, hash),
+        Blob::Base => Act {
+            said: Said::Refused(Code::NOT_FOUND),
+            control,
+        },
+        Blob::Unknown => Act {
+            said: Said::Refused(Code::NOT_FOUND),
+            control,
+        },
+    }
+}

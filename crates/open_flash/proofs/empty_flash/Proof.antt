@@ -1,0 +1,90 @@
+-- `empty_flash`: by kind; image or hash from `clear_at` and `with_phase`.
+use mathlib.Core.Path.{sym, _∙_, ap}
+use Rattle.protocol.specs.Numbers.{imageSize, hashSize}
+use Rattle.protocol.specs.declared.FlashKind.{FlashKind}
+use Rattle.state.specs.State.{stateOf, inBody, flash}
+use Rattle.rules.specs.Open.{openedFlash}
+use Rattle.protocol.specs.Sizes.{image-size, hash-size}
+use Rattle.session_flash.proofs.Laws.{cleared}
+use Rattle.open_flash.specs.Lengths.{withoutImage, withoutHash}
+use borrow.Author.Needs.{needs}
+use Rattle.open_flash.proofs.empty_flash.Statement.{statement}
+use Rattle.open_flash.proofs.empty_flash.Tie as tie
+
+with-phase-requires : tie.Need-with-phase-requires
+with-phase-requires c κs = search needs
+
+enum-told : tie.Need-enum-told
+enum-told c = search needs
+
+clear-at-requires : tie.Need-clear-at-requires
+clear-at-requires c κs = search (needs, image-size)
+
+enum-told-2 : tie.Need-enum-told-2
+enum-told-2 c = search needs
+
+clear-at-requires-2 : tie.Need-clear-at-requires-2
+clear-at-requires-2 c κs = search (needs, hash-size)
+
+enum-told-3 : tie.Need-enum-told-3
+enum-told-3 c = search needs
+
+enum-told-4 : tie.Need-enum-told-4
+enum-told-4 c = search needs
+
+enum-told-5 : tie.Need-enum-told-5
+enum-told-5 c = search needs
+
+same-length : tie.Need-same-length
+same-length c = search needs
+
+returns : tie.Need-returns
+unfolding openedFlash
+returns c =
+    λ t n d g.
+    let a = c .before .before .before .before .before .before .before .before .before .args in
+    let e = c .before .before .clear-at .ensures ∙ cleared imageSize 16384 (a .image .now) image-size (c .before .before .before .before .before .before .before .before .before .pre .0) in
+    (λ j. stateOf (withoutImage (c .before .before .before .before .before .before .with-phase .ensures j)) t n d g (e j) (a .hash .now)) ∙ ap (λ (k : FlashKind). inBody flash .put (openedFlash k ((stateOf (a .control) t n d g (a .image .now) (a .hash .now)) .flashGroup)) (stateOf (a .control) t n d g (a .image .now) (a .hash .now))) (sym (c .before .before .before .before .enum-told .given .1))
+
+same-length-2 : tie.Need-same-length-2
+same-length-2 c = search needs
+
+returns-2 : tie.Need-returns-2
+unfolding openedFlash
+returns-2 c =
+    λ t n d g.
+    let a = c .before .before .before .before .before .before .before .before .before .args in
+    let e = c .before .before .clear-at2 .ensures ∙ cleared hashSize 64 (a .hash .now) hash-size (c .before .before .before .before .before .before .before .before .before .pre .1) in
+    (λ j. stateOf (withoutHash (c .before .before .before .before .before .before .with-phase .ensures j)) t n d g (a .image .now) (e j)) ∙ ap (λ (k : FlashKind). inBody flash .put (openedFlash k ((stateOf (a .control) t n d g (a .image .now) (a .hash .now)) .flashGroup)) (stateOf (a .control) t n d g (a .image .now) (a .hash .now))) (sym (c .before .before .before .before .enum-told2 .given .1))
+
+returns-3 : tie.Need-returns-3
+unfolding openedFlash
+returns-3 c = λ t n d g. let a = c .before .before .before .before .before .args in ap (λ (k : FlashKind). inBody flash .put (openedFlash k ((stateOf (a .control) t n d g (a .image .now) (a .hash .now)) .flashGroup)) (stateOf (a .control) t n d g (a .image .now) (a .hash .now))) (sym (c .enum-told3 .given .1))
+
+returns-4 : tie.Need-returns-4
+unfolding openedFlash
+returns-4 c = λ t n d g. let a = c .before .before .before .before .before .args in ap (λ (k : FlashKind). inBody flash .put (openedFlash k ((stateOf (a .control) t n d g (a .image .now) (a .hash .now)) .flashGroup)) (stateOf (a .control) t n d g (a .image .now) (a .hash .now))) (sym (c .enum-told4 .given .1))
+
+returns-5 : tie.Need-returns-5
+unfolding openedFlash
+returns-5 c = λ t n d g. let a = c .before .before .before .before .before .args in ap (λ (k : FlashKind). inBody flash .put (openedFlash k ((stateOf (a .control) t n d g (a .image .now) (a .hash .now)) .flashGroup)) (stateOf (a .control) t n d g (a .image .now) (a .hash .now))) (sym (c .enum-told5 .given .1))
+
+pub empty-flash-spec : {M : Type 1} → statement M
+empty-flash-spec =
+    tie.close
+    (tie.spec
+    with-phase-requires
+    enum-told
+    clear-at-requires
+    enum-told-2
+    clear-at-requires-2
+    enum-told-3
+    enum-told-4
+    enum-told-5
+    same-length
+    returns
+    same-length-2
+    returns-2
+    returns-3
+    returns-4
+    returns-5)

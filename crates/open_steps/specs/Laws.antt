@@ -1,0 +1,57 @@
+-- A session opens by steps: first its slot or the flash, then its row. Assumes nothing.
+use mathlib.Core.Path.{_≡_, sym, _∙_, ap}
+use mathlib.Core.Bool.{Bool, cond}
+use mathlib.Core.List.{List}
+use Prim.Native.Nat.{ℕ}
+use lib.Dec.{eqb}
+use borrow.Author.Tests.{ne-eqb}
+use lib.ListN.{set}
+use Rattle.laws.specs.Ranges.{block, block-steady, element-steady}
+use Rattle.laws.specs.Bits.{put-bit, putBit}
+use Rattle.laws.specs.Bytes.{bytesOf, padded}
+use Rattle.protocol.specs.Numbers.{rowCount, nameSize, slotSize, readWrite}
+use Rattle.protocol.specs.Frame.{reply}
+use Rattle.state.specs.State.{State, Place, slot, flash, Body, Slots, inRow, inBody, inStore, slotOf}
+use Rattle.state.specs.Parts.{slotOf-steady}
+use Rattle.state.specs.Soundness.{slotAt}
+use Rattle.rules.specs.Store.{withStaged}
+use Rattle.rules.specs.Open.{freshId, after, withNext, newRow, opened, heldSlot}
+use Rattle.memory_slots.specs.Slots.{stagedAs, staged-put}
+use Rattle.places.specs.Laws.{fresh-same}
+use Rattle.open_steps.specs.Steps.{named, rowOpened}
+
+-- the identifier hangs on no slot, and not on the flash
+fresh-put : (p : Place) (b : Body p) (s : State) → freshId (inBody p .put b s) ≡ freshId s
+fresh-put (slot k) b s = fresh-same rowCount (s .next) (s .sessions) (inBody (slot k) .put b s) s
+fresh-put flash b s = fresh-same rowCount (s .next) (s .sessions) (inBody flash .put b s) s
+
+pub opened-is : (p : Place) (r b flags clean t : ℕ) (v : Body p) (s : State) → rowOpened r b flags clean t (inBody p .put v s) ≡ opened p r b flags clean t v s
+unfolding rowOpened opened
+opened-is p r b flags clean t v s =
+    ap (λ (id : ℕ). (reply (bytesOf 2 id), withNext (after id) (inRow r .put (newRow id b flags clean t) (inBody p .put v s)))) (fresh-put p v s)
+
+-- ---- a new name's slot
+pub named-put : (k : ℕ) (n : List ℕ) (x : Slots) (names : List ℕ) (slots : ℕ) → names ≡ block nameSize k .put (padded nameSize n) (x .names) → slots ≡ putBit k 1 (x .slots)
+    → record { names = names; committed = x .committed; staged = x .staged; slots = slots; marks = x .marks; committedLens = x .committedLens; stagedLens = x .stagedLens } ≡ slotOf k .put (named n (slotOf k .get x)) x
+named-put k n x names slots p q = λ i. record {
+  names = p i;
+  committed = sym (block-steady 0 slotSize k (x .committed)) i;
+  staged = sym (block-steady 0 slotSize k (x .staged)) i;
+  slots = q i;
+  marks = sym (put-bit k (x .marks)) i;
+  committedLens = sym (element-steady 0 k (x .committedLens)) i;
+  stagedLens = sym (element-steady 0 k (x .stagedLens)) i;
+}
+
+-- ---- a held name's slot
+module _ (k flags : ℕ) (s : State) where
+  pub held-read : (flags ≡ readWrite → ⊥) → s ≡ inBody (slot k) .put (heldSlot flags (slotAt k s)) s
+  held-read h =
+      sym (ap (λ (y : Bool). inBody (slot k) .put (cond y (withStaged (slotAt k s .committedBytes) (slotAt k s .committedLen) (slotAt k s)) (slotAt k s)) s) (ne-eqb flags readWrite h)
+      ∙ ap (λ (x : Slots). inStore .put x s) (slotOf-steady k (s .store)))
+
+  pub held-written : flags ≡ readWrite → (g : List ℕ) → g ≡ block slotSize k .put (slotAt k s .committedBytes) (s .store .staged)
+      → inStore .put (stagedAs g (set (s .store .stagedLens) k (slotAt k s .committedLen)) (s .store)) s ≡ inBody (slot k) .put (heldSlot flags (slotAt k s)) s
+  held-written h g e =
+      ap (λ (x : Slots). inStore .put x s) (sym (staged-put k (s .store) g (slotAt k s .committedBytes) (slotAt k s .committedLen) e))
+      ∙ ap (λ (f : ℕ). inBody (slot k) .put (heldSlot f (slotAt k s)) s) (sym h)

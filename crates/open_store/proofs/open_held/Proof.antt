@@ -1,0 +1,101 @@
+-- `open_held`: a session is on the blob, no row is free, or the slot is staged and the row taken.
+use mathlib.Core.Path.{_≡_, sym, _∙_, ap}
+use native.Mathlib.Omega.{arith}
+use Rattle.laws.specs.Find.{found}
+use Rattle.laws.specs.Masks.{clear}
+use Rattle.protocol.specs.Numbers.{slotCount}
+use Rattle.state.specs.State.{State, stateOf}
+use Rattle.state.specs.Answers.{optionOf}
+use mathlib.Core.List.{[]}
+use Rattle.open_steps.specs.Steps.{rowOpened}
+use Rattle.open_store.specs.Laws.{held-busy, held-no-row, held-ok}
+use borrow.Author.Needs.{needs}
+use Rattle.open_store.proofs.open_held.Statement.{statement}
+use Rattle.open_store.proofs.open_held.Tie as tie
+
+cast-open-row : tie.Need-cast-open-row
+cast-open-row c = search needs
+
+find-row-requires : tie.Need-find-row-requires
+find-row-requires c κs = search needs
+
+enum-told : tie.Need-enum-told
+enum-told c = search needs
+
+enum-told-2 : tie.Need-enum-told-2
+enum-told-2 c = search needs
+
+same-length : tie.Need-same-length
+same-length c = search needs
+
+returns : tie.Need-returns
+returns c =
+    λ n i h _.
+    let a = c .before .before .before .before .before .before .before .args in
+    held-busy (a .k) (a .flags) (a .clock) (stateOf (a .control) (a .table .now) n (a .committed .now) (a .staged .now) i h) _ (sym (c .before .before .find-row .ensures) ∙ ap optionOf (c .enum-told2 .given .1))
+
+lowest-free-requires : tie.Need-lowest-free-requires
+lowest-free-requires c κs = search needs
+
+enum-known-r : tie.Need-enum-known-r
+enum-known-r c = search needs
+
+enum-told-3 : tie.Need-enum-told-3
+enum-told-3 c = search needs
+
+same-length-2 : tie.Need-same-length-2
+same-length-2 c = search needs
+
+returns-2 : tie.Need-returns-2
+returns-2 c =
+    λ n i h _.
+    let a = c .before .before .before .before .before .before .before .before .before .before .args in
+    held-no-row (a .k) (a .flags) (a .clock) (stateOf (a .control) (a .table .now) n (a .committed .now) (a .staged .now) i h) (sym (c .before .before .before .before .before .find-row .ensures) ∙ ap optionOf (c .before .before .before .enum-told .given .1)) (sym (c .before .before .lowest-free .ensures) ∙ ap optionOf (c .enum-told3 .given .1))
+
+stage-slot-requires : tie.Need-stage-slot-requires
+stage-slot-requires c κs = search needs
+
+cast-open-row-2 : tie.Need-cast-open-row-2
+cast-open-row-2 c = search needs
+
+open-row-requires : tie.Need-open-row-requires
+open-row-requires c κs =
+    let a = c .before .before .before .before .before .before .before .before .before .before .before .before .before .before .before .before .args in
+    let e : c .before .before .before .stage-slot .result .next ≡ a .control .next = ap (λ (s : State). s .next) (c .before .before .before .stage-slot .ensures [] [] [] []) in
+    ((found (clear (a .control .rows)) slotCount (c .before .before .before .before .before .before .r .given .0 .0) (sym (c .before .before .before .before .before .before .before .before .lowest-free .ensures) ∙ ap optionOf (c .before .before .before .before .before .before .r .given .1)) .low), (omega arith, (omega (arith, e, c .before .before .before .before .before .before .before .before .before .before .before .before .before .before .before .before .pre .1 .0), c .before .before .before .before .before .before .before .before .before .before .before .before .before .before .before .before .pre .1 .1 .0)))
+
+same-length-3 : tie.Need-same-length-3
+same-length-3 c = search needs
+
+same-length-4 : tie.Need-same-length-4
+same-length-4 c = search needs
+
+returns-3 : tie.Need-returns-3
+returns-3 c =
+    λ n i h x.
+    let a = c .before .before .before .before .before .before .before .before .before .before .before .before .before .before .before .before .before .before .before .args in
+    c .before .before .open-row .ensures n (a .committed .now) (c .before .before .before .before .before .before .stage-slot .last .1 .1 .1 .1 .0) i h x
+    ∙ ap (rowOpened (c .before .before .before .before .before .before .before .before .before .r .given .0 .0) (a .k) (a .flags) 1 (a .clock)) (c .before .before .before .before .before .before .stage-slot .ensures (a .table .now) n i h)
+    ∙ held-ok (a .k) (a .flags) (a .clock) (stateOf (a .control) (a .table .now) n (a .committed .now) (a .staged .now) i h) (sym (c .before .before .before .before .before .before .before .before .before .before .before .before .before .before .find-row .ensures) ∙ ap optionOf (c .before .before .before .before .before .before .before .before .before .before .before .before .enum-told .given .1)) (c .before .before .before .before .before .before .before .before .before .r .given .0 .0) (sym (c .before .before .before .before .before .before .before .before .before .before .before .lowest-free .ensures) ∙ ap optionOf (c .before .before .before .before .before .before .before .before .before .r .given .1))
+
+pub open-held-spec : {M : Type 1} → statement M
+open-held-spec =
+    tie.close
+    (tie.spec
+    cast-open-row
+    find-row-requires
+    enum-told
+    enum-told-2
+    same-length
+    returns
+    lowest-free-requires
+    enum-known-r
+    enum-told-3
+    same-length-2
+    returns-2
+    stage-slot-requires
+    cast-open-row-2
+    open-row-requires
+    same-length-3
+    same-length-4
+    returns-3)

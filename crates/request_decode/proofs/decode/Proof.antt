@@ -1,0 +1,91 @@
+-- `request_decode::decode` meets its contract: each way out is one law of the order of the checks. Assumes nothing.
+use mathlib.Core.Path.{_≡_}
+use mathlib.Core.Bool.{true}
+use Prim.Native.Nat.{_-_}
+use lib.ListN.{length, getD}
+use Rattle.protocol.specs.Decode.{bodyFits}
+use native.Mathlib.Omega.{arith}
+use denote.Ref.{now}
+use Rattle.laws.specs.All.{flag-true}
+use Rattle.request_decode.proofs.Fits.{some-body}
+use Rattle.request_decode.proofs.Asked.{body-length}
+use Rattle.request_decode.proofs.Decoded.{Passed, too-few, too-many, not-ours, passes, no-command, wrong-body, count-is, wrong-crc, request-is}
+use borrow.Author.Needs.{needs}
+use Rattle.request_decode.proofs.decode.Statement.{statement}
+use Rattle.request_decode.proofs.decode.Tie as tie
+
+-- what the tests passed so far say, at the place where the OEM number is right, and where the body's length is
+passed : (c : tie.Else3) → Passed (now (c .before .before .before .before .before .before .args .message))
+passed c = passes _ (c .before .before .before .before .if1 .left) (c .before .before .before .if2 .left) _ (c .before .is-oem .ensures) (c .if3 .left)
+
+fits : (c : tie.Else5) → bodyFits (getD (now (c .before .before .before .before .before .before .before .before .before .args .message)) 3 0) (length (now (c .before .before .before .before .before .before .before .before .before .args .message)) - 4) ≡ true
+fits c = flag-true (c .before .body-fits .ensures) (c .if5 .left)
+
+returns : tie.Need-returns
+returns c = too-few _ (c .if1 .taken)
+
+returns-2 : tie.Need-returns-2
+returns-2 c = too-many _ (c .before .if1 .left) (c .if2 .taken)
+
+shared-slice-read-sub : tie.Need-shared-slice-read-sub
+shared-slice-read-sub c = search needs
+
+is-oem-requires : tie.Need-is-oem-requires
+is-oem-requires c κs = search needs
+
+returns-3 : tie.Need-returns-3
+returns-3 c = not-ours _ (c .before .before .before .before .if1 .left) (c .before .before .before .if2 .left) _ (c .before .is-oem .ensures) (c .if3 .taken)
+
+returns-4 : tie.Need-returns-4
+returns-4 c = no-command _ (passed (c .before)) (c .if4 .taken)
+
+body-fits-requires : tie.Need-body-fits-requires
+body-fits-requires c κs = search needs
+
+returns-5 : tie.Need-returns-5
+returns-5 c = wrong-body _ (passed (c .before .before .before)) (c .before .before .if4 .left) _ (c .before .body-fits .ensures) (c .if5 .taken)
+
+returns-6 : tie.Need-returns-6
+returns-6 c = count-is _ (passed (c .before .before .before .before)) (c .before .before .before .if4 .left) (fits (c .before)) (c .if6 .taken)
+
+sub-crc-fits : tie.Need-sub-crc-fits
+sub-crc-fits c = search needs
+
+part-crc-fits-start : tie.Need-part-crc-fits-start
+part-crc-fits-start c = search needs
+
+part-crc-fits-end : tie.Need-part-crc-fits-end
+part-crc-fits-end c = search needs
+
+crc-fits-requires : tie.Need-crc-fits-requires
+crc-fits-requires c κs = omega (arith, body-length (now (c .before .before .before .before .before .before .before .before .before .before .before .args .message)), some-body _ _ (c .before .if6 .left) (fits (c .before .before)))
+
+returns-7 : tie.Need-returns-7
+returns-7 c = wrong-crc _ (passed (c .before .before .before .before .before .before .before)) (c .before .before .before .before .before .before .if4 .left) (fits (c .before .before .before .before)) _ (c .before .crc-fits .ensures) (c .before .before .before .if6 .left) (c .if7 .taken)
+
+request-of-requires : tie.Need-request-of-requires
+request-of-requires c κs = ((omega arith, omega arith), (omega arith, fits (c .before .before .before .before)))
+
+returns-8 : tie.Need-returns-8
+returns-8 c = request-is _ (passed (c .before .before .before .before .before .before .before .before)) (c .before .before .before .before .before .before .before .if4 .left) (fits (c .before .before .before .before .before)) _ (c .before .before .crc-fits .ensures) (c .before .before .before .before .if6 .left) _ (c .before .if7 .left) (c .request-of .ensures)
+
+pub decode-spec : {M : Type 1} → statement M
+decode-spec =
+    tie.close
+    (tie.spec
+    returns
+    returns-2
+    shared-slice-read-sub
+    is-oem-requires
+    returns-3
+    returns-4
+    body-fits-requires
+    returns-5
+    returns-6
+    sub-crc-fits
+    part-crc-fits-start
+    part-crc-fits-end
+    crc-fits-requires
+    returns-7
+    request-of-requires
+    returns-8)

@@ -1,0 +1,93 @@
+-- `commit`: of a store session, of the flash session, of none.
+use mathlib.Core.List.{List}
+use Prim.Native.Nat.{ℕ}
+use Rattle.state.specs.State.{stateOf}
+use Rattle.rules.specs.Command.{commit}
+use Rattle.rules.specs.Session.{by}
+use Rattle.memory_slots.specs.declared.Wanted.the-variants.{Id}
+use Rattle.memory_slots.specs.Lookup.{by-id}
+use Rattle.session_by_id.proofs.Laws.{found-low, row-is, of-row, of-none}
+use borrow.Author.Needs.{needs}
+use Rattle.session_by_id.proofs.commit.Statement.{statement}
+use Rattle.session_by_id.proofs.commit.Tie as tie
+
+find-row-requires : tie.Need-find-row-requires
+find-row-requires c κs = search needs
+
+enum-known-found : tie.Need-enum-known-found
+enum-known-found c = search needs
+
+read-row-requires : tie.Need-read-row-requires
+read-row-requires c κs =
+    let a = c .before .before .before .before .before .before .before .before .before .before .before .args in
+    (c .before .before .before .before .before .before .before .before .before .before .before .pre .0, found-low (Id (a .id)) (a .table .now) (a .control .rows) (c .before .before .before .before .find-row .result) (c .before .before .found .given .0 .0) (c .before .before .before .before .find-row .ensures) (c .before .before .found .given .1))
+
+cast-if1 : tie.Need-cast-if1
+cast-if1 c = search needs
+
+commit-requires : tie.Need-commit-requires
+commit-requires c κs =
+    let a = c .before .before .before .before .before .before .before .before .before .before .before .before .before .before .before .before .args in
+    (row-is (Id (a .id)) (a .table .now) (a .control .rows) (c .before .before .before .before .before .before .before .before .before .find-row .result) (c .before .before .before .before .before .before .before .found .given .0 .0) (c .before .before .before .before .before .before .before .before .before .find-row .ensures) (c .before .before .before .before .before .before .before .found .given .1) (c .before .before .before .before .read-row .result) (c .before .before .before .before .before .before .before .before .before .before .before .before .before .before .before .before .pre .0) (c .before .before .before .before .read-row .ensures), (c .before .before .if1 .taken, (c .before .before .before .before .before .before .before .before .before .before .before .before .before .before .before .before .pre .1 .0, c .before .before .before .before .before .before .before .before .before .before .before .before .before .before .before .before .pre .1 .1 .0)))
+
+same-length : tie.Need-same-length
+same-length c = search needs
+
+same-length-2 : tie.Need-same-length-2
+same-length-2 c = search needs
+
+returns : tie.Need-returns
+returns c =
+    let a = c .before .before .before .before .before .before .before .before .before .before .before .before .before .before .before .before .before .before .before .before .before .args in
+    λ (n x : List ℕ). of-row (stateOf (a .control) (a .table .now) n (a .committed .now) (a .staged .now) (a .image .now) (a .hash .now)) (by (a .id)) (Id (a .id)) (by-id (a .id) (stateOf (a .control) (a .table .now) n (a .committed .now) (a .staged .now) (a .image .now) (a .hash .now))) (c .before .before .before .before .before .before .before .before .before .before .before .before .before .before .find-row .result) (c .before .before .before .before .before .before .before .before .before .before .before .before .before .before .find-row .ensures) (c .before .before .before .before .before .before .before .before .before .before .before .before .found .given .0 .0) (a .clock) (commit (a .len) (a .rest)) _ (c .before .before .before .before .before .before .before .before .before .before .before .before .found .given .1) (c .before .before .before .before .commit .ensures n (a .image .now) (a .hash .now) x)
+
+commit-requires-2 : tie.Need-commit-requires-2
+commit-requires-2 c κs =
+    let a = c .before .before .before .before .before .before .before .before .before .before .before .before .before .before .before .before .before .args in
+    (row-is (Id (a .id)) (a .table .now) (a .control .rows) (c .before .before .before .before .before .before .before .before .before .before .find-row .result) (c .before .before .before .before .before .before .before .before .found .given .0 .0) (c .before .before .before .before .before .before .before .before .before .before .find-row .ensures) (c .before .before .before .before .before .before .before .before .found .given .1) (c .before .before .before .before .before .read-row .result) (c .before .before .before .before .before .before .before .before .before .before .before .before .before .before .before .before .before .pre .0) (c .before .before .before .before .before .read-row .ensures), (c .before .before .before .if1 .left, (c .before .before .before .before .before .before .before .before .before .before .before .before .before .before .before .before .before .pre .1 .1 .1 .0, c .before .before .before .before .before .before .before .before .before .before .before .before .before .before .before .before .before .pre .1 .1 .1 .1)))
+
+enum-told : tie.Need-enum-told
+enum-told c = search needs
+
+same-length-3 : tie.Need-same-length-3
+same-length-3 c = search needs
+
+same-length-4 : tie.Need-same-length-4
+same-length-4 c = search needs
+
+same-length-5 : tie.Need-same-length-5
+same-length-5 c = search needs
+
+returns-2 : tie.Need-returns-2
+returns-2 c =
+    let a = c .before .before .before .before .before .before .before .before .before .before .before .before .before .before .before .before .before .before .before .before .before .before .before .before .args in
+    λ (n x : List ℕ). of-row (stateOf (a .control) (a .table .now) n (a .committed .now) (a .staged .now) (a .image .now) (a .hash .now)) (by (a .id)) (Id (a .id)) (by-id (a .id) (stateOf (a .control) (a .table .now) n (a .committed .now) (a .staged .now) (a .image .now) (a .hash .now))) (c .before .before .before .before .before .before .before .before .before .before .before .before .before .before .before .before .before .find-row .result) (c .before .before .before .before .before .before .before .before .before .before .before .before .before .before .before .before .before .find-row .ensures) (c .before .before .before .before .before .before .before .before .before .before .before .before .before .before .before .found .given .0 .0) (a .clock) (commit (a .len) (a .rest)) _ (c .before .before .before .before .before .before .before .before .before .before .before .before .before .before .before .found .given .1) (c .before .before .before .before .before .before .commit2 .ensures n (a .committed .now) (a .staged .now) x)
+
+same-length-6 : tie.Need-same-length-6
+same-length-6 c = search needs
+
+returns-3 : tie.Need-returns-3
+returns-3 c =
+    let a = c .before .before .before .before .before .before .before .before .before .args in
+    λ (n x : List ℕ). of-none (stateOf (a .control) (a .table .now) n (a .committed .now) (a .staged .now) (a .image .now) (a .hash .now)) (by (a .id)) (Id (a .id)) (by-id (a .id) (stateOf (a .control) (a .table .now) n (a .committed .now) (a .staged .now) (a .image .now) (a .hash .now))) (c .before .before .find-row .result) (c .before .before .find-row .ensures) (a .clock) (commit (a .len) (a .rest)) (c .enum-told .given .1)
+
+pub commit-spec : {M : Type 1} → statement M
+commit-spec =
+    tie.close
+    (tie.spec
+    find-row-requires
+    enum-known-found
+    read-row-requires
+    cast-if1
+    commit-requires
+    same-length
+    same-length-2
+    returns
+    commit-requires-2
+    enum-told
+    same-length-3
+    same-length-4
+    same-length-5
+    returns-2
+    same-length-6
+    returns-3)

@@ -1,0 +1,61 @@
+-- `outcome`: of the flash session, of none.
+use mathlib.Core.List.{List}
+use Prim.Native.Nat.{ℕ}
+use Rattle.state.specs.State.{stateOf}
+use Rattle.rules.specs.Command.{endJob}
+use Rattle.rules.specs.Session.{by, job}
+use Rattle.memory_slots.specs.declared.Wanted.the-variants.{Flash}
+use Rattle.memory_slots.specs.Lookup.{by-flash}
+use Rattle.session_by_id.proofs.Laws.{found-low, row-is, found-flash, of-row, of-none}
+use borrow.Author.Needs.{needs}
+use Rattle.session_by_id.proofs.end_job.Statement.{statement}
+use Rattle.session_by_id.proofs.end_job.Tie as tie
+
+find-row-requires : tie.Need-find-row-requires
+find-row-requires c κs = search needs
+
+enum-known-found : tie.Need-enum-known-found
+enum-known-found c = search needs
+
+read-row-requires : tie.Need-read-row-requires
+read-row-requires c κs =
+    let a = c .before .before .before .before .before .before .before .args in
+    (c .before .before .before .before .before .before .before .pre, found-low Flash (a .table .now) (a .control .rows) (c .before .before .before .before .find-row .result) (c .before .before .found .given .0 .0) (c .before .before .before .before .find-row .ensures) (c .before .before .found .given .1))
+
+end-job-requires : tie.Need-end-job-requires
+end-job-requires c κs =
+    let a = c .before .before .before .before .before .before .before .before .before .args in
+    (row-is Flash (a .table .now) (a .control .rows) (c .before .before .before .before .before .before .find-row .result) (c .before .before .before .before .found .given .0 .0) (c .before .before .before .before .before .before .find-row .ensures) (c .before .before .before .before .found .given .1) (c .before .read-row .result) (c .before .before .before .before .before .before .before .before .before .pre) (c .before .read-row .ensures), found-flash (a .table .now) (a .control .rows) (c .before .before .before .before .before .before .find-row .result) (c .before .before .before .before .found .given .0 .0) (c .before .read-row .result) (c .before .before .before .before .before .before .find-row .ensures) (c .before .before .before .before .found .given .1) (c .before .read-row .ensures))
+
+enum-told : tie.Need-enum-told
+enum-told c = search needs
+
+same-length : tie.Need-same-length
+same-length c = search needs
+
+returns : tie.Need-returns
+returns c =
+    let a = c .before .before .before .before .before .before .before .before .before .before .before .before .args in
+    λ (t : ℕ) (n m g im h x : List ℕ). of-row (stateOf (a .control) (a .table .now) n m g im h) job Flash (by-flash (stateOf (a .control) (a .table .now) n m g im h)) (c .before .before .before .before .before .before .before .before .before .find-row .result) (c .before .before .before .before .before .before .before .before .before .find-row .ensures) (c .before .before .before .before .before .before .before .found .given .0 .0) t (endJob (a .good)) _ (c .before .before .before .before .before .before .before .found .given .1) (c .before .before .end-job .ensures t n m g im h x)
+
+same-length-2 : tie.Need-same-length-2
+same-length-2 c = search needs
+
+returns-2 : tie.Need-returns-2
+returns-2 c =
+    let a = c .before .before .before .before .before .args in
+    λ (t : ℕ) (n m g im h x : List ℕ). of-none (stateOf (a .control) (a .table .now) n m g im h) job Flash (by-flash (stateOf (a .control) (a .table .now) n m g im h)) (c .before .before .find-row .result) (c .before .before .find-row .ensures) t (endJob (a .good)) (c .enum-told .given .1)
+
+pub end-job-spec : {M : Type 1} → statement M
+end-job-spec =
+    tie.close
+    (tie.spec
+    find-row-requires
+    enum-known-found
+    read-row-requires
+    end-job-requires
+    enum-told
+    same-length
+    returns
+    same-length-2
+    returns-2)

@@ -1,0 +1,30 @@
+-- `clear_flash`: from `clear_at`, twice.
+use mathlib.Core.Path.{_∙_}
+use native.Mathlib.Omega.{arith}
+use Rattle.protocol.specs.Numbers.{imageSize, hashSize}
+use Rattle.protocol.specs.Sizes.{image-size, hash-size}
+use Rattle.session_flash.proofs.Laws.{cleared}
+use borrow.Author.Needs.{needs}
+use Rattle.session_flash.proofs.clear_flash.Statement.{statement}
+use Rattle.session_flash.proofs.clear_flash.Tie as tie
+
+clear-at-requires : tie.Need-clear-at-requires
+clear-at-requires c κs = omega (arith, image-size)
+
+clear-at-requires-2 : tie.Need-clear-at-requires-2
+clear-at-requires-2 c κs = omega (arith, hash-size)
+
+same-length : tie.Need-same-length
+same-length c = search needs
+
+same-length-2 : tie.Need-same-length-2
+same-length-2 c = search needs
+
+returns : tie.Need-returns
+returns c =
+    let a = c .before .before .before .before .before .before .before .before .before .before .args in
+    (c .before .before .before .before .before .before .clear-at .ensures ∙ cleared imageSize 16384 (a .image .now) image-size (c .before .before .before .before .before .before .before .before .before .before .pre .0), c .before .before .clear-at2 .ensures ∙ cleared hashSize 64 (a .hash .now) hash-size (c .before .before .before .before .before .before .before .before .before .before .pre .1))
+
+pub clear-flash-spec : {M : Type 1} → statement M
+clear-flash-spec =
+    tie.close (tie.spec clear-at-requires clear-at-requires-2 same-length same-length-2 returns)

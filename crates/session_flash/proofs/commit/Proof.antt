@@ -1,0 +1,175 @@
+-- `commit`: refused for its length, to image and hash; verify, update, cleanup.
+use mathlib.Core.Path.{sym, _∙_, ap}
+use mathlib.Core.Bool.{cond}
+use mathlib.Core.List.{List}
+use Prim.Native.Nat.{ℕ}
+use borrow.Author.Tests.{not-true, not-false}
+use Rattle.laws.specs.Ranges.{block}
+use Rattle.protocol.specs.Numbers.{rowWords}
+use Rattle.protocol.specs.Frame.{done}
+use Rattle.state.specs.declared.Control.{Control}
+use Rattle.state.specs.declared.Phase.{Phase}
+use Rattle.state.specs.declared.Phase.the-variants.{Idle, Uploading}
+use Rattle.state.specs.declared.row.Entry.{Entry}
+use Rattle.state.specs.Entry.{wordsOf, lifted}
+use Rattle.state.specs.State.{State, stateOf}
+use Rattle.session_flash.proofs.Laws.{holdsBytes, commit-cc, commit-d5, verify-is, update-is, cleanup-is}
+use mathlib.Core.Bool.{Bool}
+use Rattle.rules.specs.Flash.{withPhase}
+use borrow.Author.Needs.{needs}
+use Rattle.session_flash.proofs.commit.Statement.{statement}
+use Rattle.session_flash.proofs.commit.Tie as tie
+
+commit-fits-requires : tie.Need-commit-fits-requires
+commit-fits-requires c κs = search needs
+
+returns : tie.Need-returns
+returns c =
+    let a = c .before .before .before .before .before .args in
+    λ (n m g x : List ℕ). commit-cc (stateOf (a .control) (a .table .now) n m g (a .image .now) (a .hash .now)) (a .r) (a .e) (c .before .before .before .before .before .pre .0 .row-words) (c .before .before .before .before .before .pre .1 .0) (a .clock) (a .len) (a .rest) (sym (c .before .commit-fits .ensures) ∙ not-true _ (c .if1 .taken))
+
+kind-of-requires : tie.Need-kind-of-requires
+kind-of-requires c κs = search needs
+
+enum-told : tie.Need-enum-told
+enum-told c = search needs
+
+enum-told-2 : tie.Need-enum-told-2
+enum-told-2 c = search needs
+
+enum-told-3 : tie.Need-enum-told-3
+enum-told-3 c = search needs
+
+started-requires : tie.Need-started-requires
+started-requires c κs = search needs
+
+lifted-requires : tie.Need-lifted-requires
+lifted-requires c κs = search needs
+
+write-row-requires : tie.Need-write-row-requires
+write-row-requires c κs = search needs
+
+startable-requires : tie.Need-startable-requires
+startable-requires c κs = search needs
+
+phase-if-requires : tie.Need-phase-if-requires
+phase-if-requires c κs = search needs
+
+with-phase-requires : tie.Need-with-phase-requires
+with-phase-requires c κs = search needs
+
+enum-told-4 : tie.Need-enum-told-4
+enum-told-4 c = search needs
+
+started-requires-2 : tie.Need-started-requires-2
+started-requires-2 c κs = search needs
+
+lifted-requires-2 : tie.Need-lifted-requires-2
+lifted-requires-2 c κs = search needs
+
+write-row-requires-2 : tie.Need-write-row-requires-2
+write-row-requires-2 c κs = search needs
+
+enum-told-5 : tie.Need-enum-told-5
+enum-told-5 c = search needs
+
+clear-flash-requires : tie.Need-clear-flash-requires
+clear-flash-requires c κs = search needs
+
+with-status-requires : tie.Need-with-status-requires
+with-status-requires c κs = search needs
+
+lifted-requires-3 : tie.Need-lifted-requires-3
+lifted-requires-3 c κs = search needs
+
+write-row-requires-3 : tie.Need-write-row-requires-3
+write-row-requires-3 c κs = search needs
+
+emptied-requires : tie.Need-emptied-requires
+emptied-requires c κs = search needs
+
+returns-2 : tie.Need-returns-2
+returns-2 c =
+    let a = c .before .before .before .before .before .before .before .before .args in
+    λ (n m g x : List ℕ). commit-d5 (stateOf (a .control) (a .table .now) n m g (a .image .now) (a .hash .now)) (a .r) (a .e) (c .before .before .before .before .before .before .before .before .pre .0 .row-words) (c .before .before .before .before .before .before .before .before .pre .1 .0) (a .clock) (a .len) (a .rest) (sym (c .before .before .before .before .commit-fits .ensures) ∙ not-false _ (c .before .before .before .if1 .left)) (ap holdsBytes (sym (c .before .before .kind-of .ensures) ∙ c .enum-told .given .1))
+
+returns-3 : tie.Need-returns-3
+returns-3 c =
+    let a = c .before .before .before .before .before .before .before .before .args in
+    λ (n m g x : List ℕ). commit-d5 (stateOf (a .control) (a .table .now) n m g (a .image .now) (a .hash .now)) (a .r) (a .e) (c .before .before .before .before .before .before .before .before .pre .0 .row-words) (c .before .before .before .before .before .before .before .before .pre .1 .0) (a .clock) (a .len) (a .rest) (sym (c .before .before .before .before .commit-fits .ensures) ∙ not-false _ (c .before .before .before .if1 .left)) (ap holdsBytes (sym (c .before .before .kind-of .ensures) ∙ c .enum-told2 .given .1))
+
+same-length : tie.Need-same-length
+same-length c = search needs
+
+returns-4 : tie.Need-returns-4
+returns-4 c =
+    let a = c .before .before .before .before .before .before .before .before .before .before .before .before .before .before .before .before .before .args in
+    λ (n m g x : List ℕ). let s : State = (stateOf (a .control) (a .table .now) n m g (a .image .now) (a .hash .now)) in
+    ap (λ (v : Control). (done, stateOf v (c .before .before .before .before .before .write-row .last .0) n m g (a .image .now) (a .hash .now))) (c .with-phase .ensures)
+    ∙ verify-is s (a .r) (a .e) (c .before .before .before .before .before .before .before .before .before .before .before .before .before .before .before .before .before .pre .0 .row-words) (c .before .before .before .before .before .before .before .before .before .before .before .before .before .before .before .before .before .pre .1 .0) (a .clock) (a .len) (a .rest) (c .before .before .before .before .before .write-row .last .0) (withPhase (c .before .phase-if .result) (s .flashGroup)) (sym (c .before .before .before .before .before .before .before .before .before .before .before .before .before .commit-fits .ensures) ∙ not-false _ (c .before .before .before .before .before .before .before .before .before .before .before .before .if1 .left)) (sym (c .before .before .before .before .before .before .before .before .before .before .before .kind-of .ensures) ∙ c .before .before .before .before .before .before .before .before .before .enum-told3 .given .1)
+    (c .before .before .before .before .before .write-row .ensures ∙ ap (λ (y : Entry). block rowWords (a .r) .put (wordsOf y) (a .table .now)) (c .before .before .before .before .before .before .lifted .ensures ∙ ap (λ (y : Entry). lifted y (a .clock)) (c .before .before .before .before .before .before .before .started .ensures)))
+    (ap (λ (p : Phase). withPhase p (s .flashGroup)) (c .before .phase-if .ensures ∙ ap (λ (y : Bool). cond y Uploading (a .control .phase)) (c .before .before .startable .ensures)))
+
+same-length-2 : tie.Need-same-length-2
+same-length-2 c = search needs
+
+returns-5 : tie.Need-returns-5
+returns-5 c =
+    let a = c .before .before .before .before .before .before .before .before .before .before .before .before .before .before .args in
+    λ (n m g x : List ℕ). update-is (stateOf (a .control) (a .table .now) n m g (a .image .now) (a .hash .now)) (a .r) (a .e) (c .before .before .before .before .before .before .before .before .before .before .before .before .before .before .pre .0 .row-words) (c .before .before .before .before .before .before .before .before .before .before .before .before .before .before .pre .1 .0) (a .clock) (a .len) (a .rest) (c .before .before .write-row2 .last .0) (sym (c .before .before .before .before .before .before .before .before .before .before .commit-fits .ensures) ∙ not-false _ (c .before .before .before .before .before .before .before .before .before .if1 .left)) (sym (c .before .before .before .before .before .before .before .before .kind-of .ensures) ∙ c .before .before .before .before .before .before .enum-told4 .given .1)
+    (c .before .before .write-row2 .ensures ∙ ap (λ (y : Entry). block rowWords (a .r) .put (wordsOf y) (a .table .now)) (c .before .before .before .lifted2 .ensures ∙ ap (λ (y : Entry). lifted y (a .clock)) (c .before .before .before .before .started2 .ensures)))
+
+same-length-3 : tie.Need-same-length-3
+same-length-3 c = search needs
+
+same-length-4 : tie.Need-same-length-4
+same-length-4 c = search needs
+
+same-length-5 : tie.Need-same-length-5
+same-length-5 c = search needs
+
+returns-6 : tie.Need-returns-6
+returns-6 c =
+    let a = c .before .before .before .before .before .before .before .before .before .before .before .before .before .before .before .before .before .before .before .before .before .before .args in
+    λ (n m g x : List ℕ).
+    ap (λ (v : Control). (done, stateOf v (c .before .before .before .write-row3 .last .0) n m g (c .before .before .before .before .before .before .before .before .before .before .before .clear-flash .last .0) (c .before .before .before .before .before .before .before .before .before .before .before .clear-flash .last .1 .0))) (c .emptied .ensures)
+    ∙ cleanup-is (stateOf (a .control) (a .table .now) n m g (a .image .now) (a .hash .now)) (a .r) (a .e) (c .before .before .before .before .before .before .before .before .before .before .before .before .before .before .before .before .before .before .before .before .before .before .pre .0 .row-words) (c .before .before .before .before .before .before .before .before .before .before .before .before .before .before .before .before .before .before .before .before .before .before .pre .1 .0) (a .clock) (a .len) (a .rest) (c .before .before .before .write-row3 .last .0) (record { phase = Idle; image = c .before .before .before .before .before .before .before .before .before .before .before .clear-flash .last .0; hash = c .before .before .before .before .before .before .before .before .before .before .before .clear-flash .last .1 .0; imageLen = 0; hashLen = 0 }) (sym (c .before .before .before .before .before .before .before .before .before .before .before .before .before .before .before .before .before .before .commit-fits .ensures) ∙ not-false _ (c .before .before .before .before .before .before .before .before .before .before .before .before .before .before .before .before .before .if1 .left)) (sym (c .before .before .before .before .before .before .before .before .before .before .before .before .before .before .before .before .kind-of .ensures) ∙ c .before .before .before .before .before .before .before .before .before .before .before .before .before .before .enum-told5 .given .1)
+    (c .before .before .before .write-row3 .ensures ∙ ap (λ (y : Entry). block rowWords (a .r) .put (wordsOf y) (a .table .now)) (c .before .before .before .before .lifted3 .ensures ∙ ap (λ (y : Entry). lifted y (a .clock)) (c .before .before .before .before .before .with-status .ensures)))
+    (λ i. record { phase = Idle; image = c .before .before .before .before .before .before .before .before .before .before .before .clear-flash .ensures .0 i; hash = c .before .before .before .before .before .before .before .before .before .before .before .clear-flash .ensures .1 i; imageLen = 0; hashLen = 0 })
+
+pub commit-spec : {M : Type 1} → statement M
+commit-spec =
+    tie.close
+    (tie.spec
+    commit-fits-requires
+    returns
+    kind-of-requires
+    enum-told
+    enum-told-2
+    enum-told-3
+    started-requires
+    lifted-requires
+    write-row-requires
+    startable-requires
+    phase-if-requires
+    with-phase-requires
+    enum-told-4
+    started-requires-2
+    lifted-requires-2
+    write-row-requires-2
+    enum-told-5
+    clear-flash-requires
+    with-status-requires
+    lifted-requires-3
+    write-row-requires-3
+    emptied-requires
+    returns-2
+    returns-3
+    same-length
+    returns-4
+    same-length-2
+    returns-5
+    same-length-3
+    same-length-4
+    same-length-5
+    returns-6)

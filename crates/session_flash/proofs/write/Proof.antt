@@ -1,0 +1,122 @@
+-- `write`: to the image, to the hash, refused to the others.
+use mathlib.Core.Path.{sym, _∙_, ap, refl}
+use mathlib.Core.List.{List}
+use Prim.Native.Nat.{ℕ}
+use Rattle.protocol.specs.Numbers.{imageSize, hashSize}
+use Rattle.protocol.specs.Names.{kindOf}
+use Rattle.state.specs.State.{State, stateOf}
+use Rattle.session_flash.proofs.Laws.{holdsBytes, write-image, write-hash, write-d5, write-is}
+use native.Mathlib.Omega.{arith}
+use Rattle.rules.specs.Flash.{withImage, withHash}
+use Rattle.protocol.specs.Sizes.{image-size, hash-size}
+use Rattle.session_row.specs.OnRow.{rowRead}
+use borrow.Author.Needs.{needs}
+use Rattle.session_flash.proofs.write.Statement.{statement}
+use Rattle.session_flash.proofs.write.Tie as tie
+
+kind-of-requires : tie.Need-kind-of-requires
+kind-of-requires c κs = search needs
+
+enum-told : tie.Need-enum-told
+enum-told c = search needs
+
+write-whole-requires : tie.Need-write-whole-requires
+write-whole-requires c κs = (c .before .before .before .before .before .before .before .before .before .pre .0, omega (arith, image-size))
+
+length-requires : tie.Need-length-requires
+length-requires c κs = search needs
+
+said-requires : tie.Need-said-requires
+said-requires c κs = search needs
+
+enum-told-2 : tie.Need-enum-told-2
+enum-told-2 c = search needs
+
+write-whole-requires-2 : tie.Need-write-whole-requires-2
+write-whole-requires-2 c κs = (c .before .before .before .before .before .before .before .before .before .pre .0, omega (arith, hash-size))
+
+length-requires-2 : tie.Need-length-requires-2
+length-requires-2 c κs = search needs
+
+said-requires-2 : tie.Need-said-requires-2
+said-requires-2 c κs = search needs
+
+enum-told-3 : tie.Need-enum-told-3
+enum-told-3 c = search needs
+
+enum-told-4 : tie.Need-enum-told-4
+enum-told-4 c = search needs
+
+enum-told-5 : tie.Need-enum-told-5
+enum-told-5 c = search needs
+
+same-length : tie.Need-same-length
+same-length c = search needs
+
+same-length-2 : tie.Need-same-length-2
+same-length-2 c = search needs
+
+returns : tie.Need-returns
+returns c =
+    let a = c .before .before .before .before .before .before .before .before .before .before .before .before .before .before .before .before .args in
+    λ (n m g x : List ℕ). let s : State = (stateOf (a .control) (a .table .now) n m g (a .image .now) (a .hash .now)) in
+    write-is s (a .r) (a .e) (c .before .before .before .before .before .before .before .before .before .before .before .before .before .before .before .before .pre .0 .row-words) (c .before .before .before .before .before .before .before .before .before .before .before .before .before .before .before .before .pre .1 .0) (a .clock) (a .offset) (a .bytes .now) x imageSize (a .image .now) (a .control .«image_len») (λ (l : List ℕ) (j : ℕ). withImage l j (s .flashGroup))
+    (c .before .before .before .before .before .before .write-whole .result) (c .said .result) (c .before .before .before .before .before .before .write-whole .last .0) (c .before .before .before .before .before .before .write-whole .last .1 .0) (c .before .length .result) refl
+    (write-image (a .clock) (a .offset) (a .bytes .now) (rowRead (a .r) (a .e) s) (s .flashGroup) (kindOf (a .e .blob)) (sym (c .before .before .before .before .before .before .before .before .before .before .before .kind-of .ensures) ∙ c .before .before .before .before .before .before .before .before .before .enum-told .given .1)) (c .before .before .before .before .before .before .before .before .before .before .before .before .before .before .before .before .pre .1 .1 .0)
+    (c .before .before .before .before .before .before .write-whole .ensures .0) (c .said .ensures) (c .before .before .before .before .before .before .write-whole .ensures .1 .1) (c .before .before .before .before .before .before .write-whole .ensures .1 .0) (c .before .length .ensures)
+
+same-length-3 : tie.Need-same-length-3
+same-length-3 c = search needs
+
+same-length-4 : tie.Need-same-length-4
+same-length-4 c = search needs
+
+returns-2 : tie.Need-returns-2
+returns-2 c =
+    let a = c .before .before .before .before .before .before .before .before .before .before .before .before .before .before .before .before .args in
+    λ (n m g x : List ℕ). let s : State = (stateOf (a .control) (a .table .now) n m g (a .image .now) (a .hash .now)) in
+    write-is s (a .r) (a .e) (c .before .before .before .before .before .before .before .before .before .before .before .before .before .before .before .before .pre .0 .row-words) (c .before .before .before .before .before .before .before .before .before .before .before .before .before .before .before .before .pre .1 .0) (a .clock) (a .offset) (a .bytes .now) x hashSize (a .hash .now) (a .control .«hash_len») (λ (l : List ℕ) (j : ℕ). withHash l j (s .flashGroup))
+    (c .before .before .before .before .before .before .write-whole2 .result) (c .said2 .result) (c .before .before .before .before .before .before .write-whole2 .last .0) (c .before .before .before .before .before .before .write-whole2 .last .1 .0) (c .before .length2 .result) refl
+    (write-hash (a .clock) (a .offset) (a .bytes .now) (rowRead (a .r) (a .e) s) (s .flashGroup) (kindOf (a .e .blob)) (sym (c .before .before .before .before .before .before .before .before .before .before .before .kind-of .ensures) ∙ c .before .before .before .before .before .before .before .before .before .enum-told2 .given .1)) (c .before .before .before .before .before .before .before .before .before .before .before .before .before .before .before .before .pre .1 .1 .1)
+    (c .before .before .before .before .before .before .write-whole2 .ensures .0) (c .said2 .ensures) (c .before .before .before .before .before .before .write-whole2 .ensures .1 .1) (c .before .before .before .before .before .before .write-whole2 .ensures .1 .0) (c .before .length2 .ensures)
+
+returns-3 : tie.Need-returns-3
+returns-3 c =
+    let a = c .before .before .before .before .before .before .before .args in
+    λ (n m g x : List ℕ). write-d5 (stateOf (a .control) (a .table .now) n m g (a .image .now) (a .hash .now)) (a .r) (a .e) (c .before .before .before .before .before .before .before .pre .0 .row-words) (c .before .before .before .before .before .before .before .pre .1 .0) (a .clock) (a .offset) (a .bytes .now) x (ap holdsBytes (sym (c .before .before .kind-of .ensures) ∙ c .enum-told3 .given .1))
+
+returns-4 : tie.Need-returns-4
+returns-4 c =
+    let a = c .before .before .before .before .before .before .before .args in
+    λ (n m g x : List ℕ). write-d5 (stateOf (a .control) (a .table .now) n m g (a .image .now) (a .hash .now)) (a .r) (a .e) (c .before .before .before .before .before .before .before .pre .0 .row-words) (c .before .before .before .before .before .before .before .pre .1 .0) (a .clock) (a .offset) (a .bytes .now) x (ap holdsBytes (sym (c .before .before .kind-of .ensures) ∙ c .enum-told4 .given .1))
+
+returns-5 : tie.Need-returns-5
+returns-5 c =
+    let a = c .before .before .before .before .before .before .before .args in
+    λ (n m g x : List ℕ). write-d5 (stateOf (a .control) (a .table .now) n m g (a .image .now) (a .hash .now)) (a .r) (a .e) (c .before .before .before .before .before .before .before .pre .0 .row-words) (c .before .before .before .before .before .before .before .pre .1 .0) (a .clock) (a .offset) (a .bytes .now) x (ap holdsBytes (sym (c .before .before .kind-of .ensures) ∙ c .enum-told5 .given .1))
+
+pub write-spec : {M : Type 1} → statement M
+write-spec =
+    tie.close
+    (tie.spec
+    kind-of-requires
+    enum-told
+    write-whole-requires
+    length-requires
+    said-requires
+    enum-told-2
+    write-whole-requires-2
+    length-requires-2
+    said-requires-2
+    enum-told-3
+    enum-told-4
+    enum-told-5
+    same-length
+    same-length-2
+    returns
+    same-length-3
+    same-length-4
+    returns-2
+    returns-3
+    returns-4
+    returns-5)

@@ -1,0 +1,47 @@
+-- `write_region`: each way out is one of the ways of `written`.
+use mathlib.Core.Path.{refl}
+use borrow.Author.Tests.{le-leb, lt-leb}
+use borrow.Author.Needs.{needs}
+use Rattle.session_row.proofs.write_region.Statement.{statement}
+use Rattle.session_row.proofs.write_region.Tie as tie
+
+returns : tie.Need-returns
+returns c = (rw (lt-leb _ _ (c .if1 .taken)), refl)
+
+add-end : tie.Need-add-end
+add-end c = search needs
+
+returns-2 : tie.Need-returns-2
+returns-2 c = (rw (le-leb _ _ (c .before .if1 .left), lt-leb _ _ (c .if2 .taken)), refl)
+
+add-copy-at : tie.Need-add-copy-at
+add-copy-at c = search needs
+
+copy-at-requires : tie.Need-copy-at-requires
+copy-at-requires c κs = search needs
+
+cast-greater : tie.Need-cast-greater
+cast-greater c = search needs
+
+greater-requires : tie.Need-greater-requires
+greater-requires c κs = search needs
+
+same-length : tie.Need-same-length
+same-length c = search needs
+
+returns-3 : tie.Need-returns-3
+returns-3 c = (rw (le-leb _ _ (c .before .before .before .before .before .before .if1 .left), le-leb _ _ (c .before .before .before .before .before .if2 .left), c .greater .ensures), c .before .before .before .copy-at .ensures)
+
+pub write-region-spec : {M : Type 1} → statement M
+write-region-spec =
+    tie.close
+    (tie.spec
+    returns
+    add-end
+    returns-2
+    add-copy-at
+    copy-at-requires
+    cast-greater
+    greater-requires
+    same-length
+    returns-3)

@@ -1,0 +1,53 @@
+-- `stat`: the state bits and the length seen.
+use mathlib.Core.Path.{_∙_, ap}
+use mathlib.Core.List.{List}
+use Prim.Native.Nat.{ℕ}
+use Rattle.laws.specs.Ranges.{block}
+use Rattle.protocol.specs.Numbers.{rowWords}
+use Rattle.state.specs.State.{stateOf}
+use Rattle.state.specs.declared.row.Entry.{Entry}
+use Rattle.state.specs.Entry.{wordsOf, lifted}
+use Rattle.session_store.proofs.Laws.{stat-is}
+use borrow.Author.Needs.{needs}
+use Rattle.session_store.proofs.stat.Statement.{statement}
+use Rattle.session_store.proofs.stat.Tie as tie
+
+cast-seen-length : tie.Need-cast-seen-length
+cast-seen-length c = search needs
+
+writes-requires : tie.Need-writes-requires
+writes-requires c κs = search needs
+
+seen-length-requires : tie.Need-seen-length-requires
+seen-length-requires c κs = search needs
+
+state-bits-requires : tie.Need-state-bits-requires
+state-bits-requires c κs = search needs
+
+lifted-requires : tie.Need-lifted-requires
+lifted-requires c κs = search needs
+
+write-row-requires : tie.Need-write-row-requires
+write-row-requires c κs = search needs
+
+same-length : tie.Need-same-length
+same-length c = search needs
+
+returns : tie.Need-returns
+returns c =
+    let a = c .before .before .before .before .before .before .before .before .before .before .args in
+    λ (n cm g im h x : List ℕ). stat-is (stateOf (a .control) (a .table .now) n cm g im h) (a .r) (a .e) (c .before .before .before .before .before .before .before .before .before .before .pre .0 .row-words) (c .before .before .before .before .before .before .before .before .before .before .pre .1) (a .clock) (c .before .before .before .before .before .state-bits .result) (c .before .before .before .before .before .before .seen-length .result) (c .before .before .before .before .before .before .before .writes .result) (c .before .before .write-row .last .0)
+    (c .before .before .before .before .before .before .before .writes .ensures) (c .before .before .before .before .before .state-bits .ensures) (c .before .before .before .before .before .before .seen-length .ensures) (c .before .before .write-row .ensures ∙ ap (λ (y : Entry). block rowWords (a .r) .put (wordsOf y) (a .table .now)) (c .before .before .before .lifted .ensures))
+
+pub stat-spec : {M : Type 1} → statement M
+stat-spec =
+    tie.close
+    (tie.spec
+    cast-seen-length
+    writes-requires
+    seen-length-requires
+    state-bits-requires
+    lifted-requires
+    write-row-requires
+    same-length
+    returns)
