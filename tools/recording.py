@@ -20,7 +20,7 @@ import shlex
 import sys
 
 OEM = b"\xcf\xc2\x00"
-CODES = {0x00: "accepted", 0xFF: "refused: state not sound", 0xC7: "refused: wrong length", 0xCC: "refused: OEM number, CRC, name form, flags or commit length",
+CODES = {0x00: "accepted", 0xFF: "refused: state not sound", 0xC7: "refused: wrong length", 0xCC: "refused: wrong OEM number, CRC, form of name, flags or length byte",
          0xC1: "refused: no such subcommand", 0xCB: "refused: no such blob or session", 0xC9: "refused: index or offset out of range", 0xC8: "refused: too long",
          0xC4: "refused: no free row or slot", 0xC0: "refused: busy", 0xD5: "refused: not supported"}
 

@@ -45,7 +45,7 @@ static bool store_name_padded(const uint8_t *f) {
     return n >= 7 && n <= 31 && zero(f + n, 32 - n);
 }
 
-/* document 01, "A state is sound if", sentence by sentence */
+/* rules 6.1-6.13 of docs/PROTOCOL.md, read from document 01 */
 static bool second(void) {
     static const size_t exact[6] = {64, 512, 65536, 65536, 16384, 64};
     if (memcmp(lent, exact, sizeof exact)) return false;

@@ -1,4 +1,4 @@
-//! "One named set of completion codes is used everywhere."
+//! The completion codes (rules 7.1-7.11).
 
 #[derive(Clone, Copy, Debug, PartialEq, Eq)]
 pub struct Code(pub u8);
@@ -6,25 +6,25 @@ pub struct Code(pub u8);
 impl Code {
     /// 00: success.
     pub const SUCCESS: Code = Code(0x00);
-    /// FF: state not sound.
+    /// FF: the state is not sound.
     pub const NOT_SOUND: Code = Code(0xFF);
-    /// C7: message under 4 or over 64, or body length wrong.
+    /// C7: wrong length of the message or its body.
     pub const LENGTH: Code = Code(0xC7);
-    /// CC: OEM number, CRC, name form, flags or commit length wrong.
+    /// CC: a wrong OEM number, CRC, form of name, flags or length byte.
     pub const FIELD: Code = Code(0xCC);
-    /// C1: subcommand over 10.
+    /// C1: unknown subcommand.
     pub const SUBCOMMAND: Code = Code(0xC1);
-    /// CB: no such blob or session.
+    /// CB: blob or session not there.
     pub const ABSENT: Code = Code(0xCB);
-    /// C9: Enumerate index not below the count, or Write offset above the length.
+    /// C9: index of an Enumerate or offset of a Write out of range.
     pub const RANGE: Code = Code(0xC9);
-    /// C8: Write end above the capacity.
+    /// C8: a Write past the capacity.
     pub const CAPACITY: Code = Code(0xC8);
-    /// C4: no free row, or no free slot.
+    /// C4: rows or slots are used up.
     pub const NO_SPACE: Code = Code(0xC4);
-    /// C0: blob or flash busy, or job running.
+    /// C0: the blob or the flash is in use, or a job runs.
     pub const BUSY: Code = Code(0xC0);
-    /// D5: not supported by this blob or session, or an outcome without a running job.
+    /// D5: this blob or session does not do that, or no job runs that could end.
     pub const NOT_SUPPORTED: Code = Code(0xD5);
 
     pub fn number(self) -> u32 {

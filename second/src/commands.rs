@@ -23,7 +23,7 @@ const SESSION_FLAG_BITS: u32 = 3;
 
 /// Answers one message. Gives the completion code + 256 × the response length; a refusal has no response.
 pub fn respond(request: &[u8], clock: u32, memory: &mut Memory, answer: &mut [u8]) -> u32 {
-    // Reading 2: the answer buffer's 64 bytes belong to "lent lengths are exact", so another length is FF.
+    // Reading 2: the answer buffer is lent too, so any length but 64 is FF (rule 19.1).
     if answer.len() != ANSWER_BYTES || !is_sound(memory) {
         return Code::NOT_SOUND.number();
     }
@@ -33,14 +33,14 @@ pub fn respond(request: &[u8], clock: u32, memory: &mut Memory, answer: &mut [u8
     }
 }
 
-/// "A success writes the response at the front of the answer buffer and keeps the bytes behind it."
+/// The response goes to the front of the answer buffer, and only there (rule 19.2).
 fn success(response: &Response, answer: &mut [u8]) -> u32 {
     put(answer, response.bytes());
     let length = u32::try_from(response.bytes().len()).unwrap_or(0);
     Code::SUCCESS.number() | (length << 8)
 }
 
-/// "Good or failed turns status 1 to 2 or 3, code 00, no response; without a running job D5. No stamp changes."
+/// The end of a job (rules 17.1-17.3): the status alone changes.
 pub fn job_outcome(good: bool, memory: &mut Memory) -> u32 {
     if !is_sound(memory) {
         return Code::NOT_SOUND.number();
@@ -74,7 +74,7 @@ fn command(request: Request, clock: u32, memory: &mut Memory) -> Outcome {
 
 // ---- Count and Enumerate ----
 
-/// "In order: `/scan/`; committed slots ascending; image, hash, verify if not Idle, update if Verified, cleanup."
+/// The listed names, in their order (rules 8.1 and 8.2).
 /// Reading 20: the committed mark alone decides.
 fn listed<'m>(memory: &'m Memory) -> impl Iterator<Item = &'m [u8]> {
     let slots = (0..SLOTS).filter(|slot| memory.slot_committed(*slot)).map(|slot| names::characters(memory.name(slot)));
@@ -95,7 +95,7 @@ fn count(memory: &Memory) -> Outcome {
     Ok(Response::with_fields(message::COUNT, &count.to_le_bytes()))
 }
 
-/// "A listed name is sent with its NUL."
+/// The name at an index, with a NUL behind it (rule 8.4).
 fn enumerate(index: u32, memory: &Memory) -> Outcome {
     let index = usize::try_from(index).map_err(|_| Code::RANGE)?;
     let name = listed(memory).nth(index).ok_or(Code::RANGE)?;
@@ -106,7 +106,7 @@ fn enumerate(index: u32, memory: &Memory) -> Outcome {
 
 // ---- Open ----
 
-/// "Name form (CC); sweep; name unknown or base (CB)"; then as the name's kind demands.
+/// The first checks of an Open and its sweep (rules 9.1 and 9.2); then as the name's kind demands.
 ///
 /// Reading 4: a wrong name form does not sweep; every later refusal keeps the sweep.
 fn open(flags: u16, name: &[u8], clock: u32, memory: &mut Memory) -> Outcome {
@@ -119,7 +119,7 @@ fn open(flags: u16, name: &[u8], clock: u32, memory: &mut Memory) -> Outcome {
     }
 }
 
-/// Flags (CC); absence (CB); busy (C0); row, then slot (C4).
+/// The other checks, for a store name (rules 9.3-9.7).
 ///
 /// Reading 6: a new name that is open is held, so it is busy for any flags. Reading 7: row or slot, the code is one.
 fn open_store(name: &Padded, flags: u32, clock: u32, memory: &mut Memory) -> Outcome {
@@ -145,19 +145,19 @@ fn open_store(name: &Padded, flags: u32, clock: u32, memory: &mut Memory) -> Out
     Ok(start_session(row, blob, flags, held.is_some(), clock, memory))
 }
 
-/// "Writing a held name copies the whole committed region and length to staged."
+/// A held name that is opened for writing starts from what is committed (rule 9.11).
 fn stage_committed(slot: usize, memory: &mut Memory) {
     memory.copy_committed_to_staged(slot);
     memory.set_staged_length(slot, memory.committed_length(slot));
 }
 
-/// "A new name starts empty": an unused slot is zero already (reading 14).
+/// A new name has no bytes (rule 9.12): an unused slot is zero already (reading 14).
 fn take_slot(slot: usize, name: &Padded, memory: &mut Memory) {
     memory.set_slot_used(slot, true);
     memory.set_name(slot, name);
 }
 
-/// Flags (CC); absence (CB): verify or update not listed; busy (C0): any flash session; row (C4).
+/// The other checks, for a flash name (rules 9.3-9.7), and what opening it does (rule 9.13).
 ///
 /// Reading 15: the image and the hash each zero only their own bytes and length.
 fn open_flash(flash: Flash, flags: u32, clock: u32, memory: &mut Memory) -> Outcome {
@@ -185,7 +185,7 @@ fn open_flash(flash: Flash, flags: u32, clock: u32, memory: &mut Memory) -> Outc
     Ok(start_session(row, flash.blob(), flags, false, clock, memory))
 }
 
-/// Fills the free row and answers with its identifier. "Stamp is the clock."
+/// Fills the free row and answers with its identifier (rule 9.9).
 fn start_session(row: usize, blob: u32, flags: u32, clean: bool, clock: u32, memory: &mut Memory) -> Response {
     let identifier = first_unused_identifier(memory);
     memory.set_value(NEXT_IDENTIFIER, u32::from(identifier.wrapping_add(1)));
@@ -196,7 +196,7 @@ fn start_session(row: usize, blob: u32, flags: u32, clean: bool, clock: u32, mem
     Response::with_fields(message::OPEN, &identifier.to_le_bytes())
 }
 
-/// "The first unused one from 'next' upward, 65,535 being followed by 0." At most 16 are used, so one is found.
+/// The identifier to give out (rule 9.8). At most 16 are used, so one is found.
 fn first_unused_identifier(memory: &Memory) -> u16 {
     let next = u16::try_from(memory.value(NEXT_IDENTIFIER)).unwrap_or(0);
     let upward = (0..=u16::MAX).map(|steps| next.wrapping_add(steps));
@@ -206,13 +206,13 @@ fn first_unused_identifier(memory: &Memory) -> u16 {
 
 // ---- Session commands ----
 
-/// "Session (CB)."
+/// The row of the session, or CB (rule 7.14).
 fn find_session(session: u16, memory: &Memory) -> Result<usize, Code> {
     memory.row_of_identifier(u32::from(session)).ok_or(Code::ABSENT)
 }
 
-/// "Every accepted session command but Close lifts its stamp to the clock if that is later." Reading 8: also one that
-/// moves no byte or changes no status.
+/// Raises the session's stamp to the clock (rule 18.1). Reading 8: also by a command that moves no byte or changes no
+/// status.
 fn lift_stamp(row: usize, clock: u32, memory: &mut Memory) {
     let found = memory.row(row);
     memory.set_row(row, &Row { stamp: found.stamp.max(clock), ..found });
@@ -222,7 +222,7 @@ fn read(session: u16, offset: u32, requested: u32, clock: u32, memory: &mut Memo
     let row = find_session(session, memory)?;
     let found = memory.row(row);
     let slot = found.slot().ok_or(Code::NOT_SUPPORTED)?;
-    // "A read-only session sees committed bytes, a writing one staged bytes."
+    // What the session sees (rule 10.2).
     let (region, length) = if found.is_writing_store() {
         (memory.staged_region(slot), memory.staged_length(slot))
     } else {
@@ -233,7 +233,7 @@ fn read(session: u16, offset: u32, requested: u32, clock: u32, memory: &mut Memo
     Ok(response)
 }
 
-/// "Count: the least of requested, 58 and length minus offset; zero from the end on."
+/// How many bytes a Read sends (rule 10.3).
 fn part(region: &[u8], length: u32, offset: u32, requested: u32) -> &[u8] {
     let most = u32::try_from(MOST_FIELD_BYTES).unwrap_or(0);
     let count = requested.min(most).min(length.saturating_sub(offset));
@@ -260,14 +260,14 @@ fn write(session: u16, offset: u32, data: &[u8], clock: u32, memory: &mut Memory
     }
     put(target.region(memory).get_mut(start..end).unwrap_or(&mut []), data);
     target.set_length(length.max(u32::try_from(end).unwrap_or(0)), memory);
-    // "A nonempty write clears clean."
+    // Any byte written makes the session not clean (rule 11.5).
     let clean = found.clean && data.is_empty();
     memory.set_row(row, &Row { clean, ..found });
     lift_stamp(row, clock, memory);
     Ok(Response::bare(message::WRITE))
 }
 
-/// What a session may write into: "store with WRITE, image or hash".
+/// What a session may write into (rule 11.2).
 enum Target {
     Staged(usize),
     Image,
@@ -317,7 +317,7 @@ impl Target {
     }
 }
 
-/// "Session (CB); length byte must equal the bytes after it and be 0 (CC); read-only store, image, hash (D5)."
+/// The checks of a Commit (rules 12.1 and 12.2), then what it does.
 fn commit(session: u16, length: u8, data: &[u8], clock: u32, memory: &mut Memory) -> Outcome {
     let row = find_session(session, memory)?;
     if length != 0 || !data.is_empty() {
@@ -335,7 +335,7 @@ fn commit(session: u16, length: u8, data: &[u8], clock: u32, memory: &mut Memory
     Ok(Response::bare(message::COMMIT))
 }
 
-/// "The staged region and length become the committed ones, slot committed, clean."
+/// Rule 12.3: what is staged is committed.
 fn commit_store(row: usize, slot: usize, memory: &mut Memory) {
     memory.copy_staged_to_committed(slot);
     memory.set_committed_length(slot, memory.staged_length(slot));
@@ -343,14 +343,14 @@ fn commit_store(row: usize, slot: usize, memory: &mut Memory) {
     memory.set_row(row, &Row { clean: true, ..memory.row(row) });
 }
 
-/// "Status 0 or 3 becomes 1 and phase Uploading; 1 or 2 stays." Reading 9: then the phase stays too.
+/// Rule 12.4: the verify job starts, unless it runs or has succeeded. Reading 9: then the phase stays too.
 fn commit_verify(row: usize, memory: &mut Memory) {
     if start_job(row, memory) {
         memory.set_phase(Phase::Uploading);
     }
 }
 
-/// "0 or 3 becomes 1."
+/// Rule 12.5: the update job starts in the same cases.
 fn commit_update(row: usize, memory: &mut Memory) {
     start_job(row, memory);
 }
@@ -364,7 +364,7 @@ fn start_job(row: usize, memory: &mut Memory) -> bool {
     starts
 }
 
-/// "Image and hash bytes and lengths zero, Idle, status 2", also when it is 2 already (reading 10).
+/// Rule 12.6: the flash is emptied, also at status 2 (reading 10).
 fn commit_cleanup(row: usize, memory: &mut Memory) {
     memory.zero_image();
     memory.zero_hash();
@@ -372,7 +372,7 @@ fn commit_cleanup(row: usize, memory: &mut Memory) {
     memory.set_row(row, &Row { status: SUCCEEDED, ..memory.row(row) });
 }
 
-/// "Session (CB); running (C0)."
+/// The checks of a Close (rule 13.1).
 fn close(session: u16, memory: &mut Memory) -> Outcome {
     let row = find_session(session, memory)?;
     if memory.row(row).status == RUNNING {
@@ -382,7 +382,7 @@ fn close(session: u16, memory: &mut Memory) -> Outcome {
     Ok(Response::bare(message::CLOSE))
 }
 
-/// What Close does, for the sweep too: "Row freed", then by the session's kind. The job is not running.
+/// What Close does, for the sweep too (rules 13.2-13.8): by the session's kind. The job is not running.
 ///
 /// Reading 11: kinds not named change nothing else.
 pub fn close_row(row: usize, memory: &mut Memory) {
@@ -397,8 +397,7 @@ pub fn close_row(row: usize, memory: &mut Memory) {
     }
 }
 
-/// "Staged region and length zero; if never committed the slot, its name and its committed region are zeroed and free
-/// for use."
+/// Rules 13.4 and 13.5: nothing stays staged, and a slot that was never committed is given back.
 fn close_writing_store(slot: usize, memory: &mut Memory) {
     if memory.slot_committed(slot) {
         memory.staged_region_mut(slot).fill(0);
@@ -408,7 +407,7 @@ fn close_writing_store(slot: usize, memory: &mut Memory) {
     }
 }
 
-/// "Verify: 2 gives Verified, 3 Uploading." Untried, the phase stays.
+/// Rule 13.6: the phase by the job's end. Untried, the phase stays.
 fn close_verify(status: u32, memory: &mut Memory) {
     match status {
         SUCCEEDED => memory.set_phase(Phase::Verified),
@@ -417,7 +416,8 @@ fn close_verify(status: u32, memory: &mut Memory) {
     }
 }
 
-/// "Update: 2 zeroes image and hash and gives Idle, 3 Uploading." Untried, the phase stays. Reading 12: lengths too.
+/// Rule 13.7: the same for an update, which empties the flash if it was good. Untried, the phase stays. Reading 12:
+/// lengths too.
 fn close_update(status: u32, memory: &mut Memory) {
     match status {
         SUCCEEDED => {
@@ -432,7 +432,7 @@ fn close_update(status: u32, memory: &mut Memory) {
 
 // ---- Delete, Stat, SessionStat, WriteMeta ----
 
-/// "Name form (CC); base or flash (D5); open session (C0); not held (CB)."
+/// The checks of a Delete (rule 14.1).
 fn delete(name: &[u8], memory: &mut Memory) -> Outcome {
     let name = match names::decode(name).ok_or(Code::FIELD)? {
         Name::Base | Name::Flash(_) => return Err(Code::NOT_SUPPORTED),
@@ -448,7 +448,7 @@ fn delete(name: &[u8], memory: &mut Memory) -> Outcome {
     Ok(Response::bare(message::DELETE))
 }
 
-/// "Name form (CC); unknown or not listed (CB), except that an open new name counts as held."
+/// The checks of a Stat (rule 15.1).
 ///
 /// Reading 8: Stat names a blob and no session, so it lifts no stamp.
 fn stat(name: &[u8], memory: &Memory) -> Outcome {
@@ -465,7 +465,7 @@ fn stat(name: &[u8], memory: &Memory) -> Outcome {
     Ok(stat_response(message::STAT, state, size))
 }
 
-/// Without a session a store name has bit 3 set, and its size is the committed length.
+/// Rule 15.7: without a session a store name has bit 3 set, and its size is the committed length.
 fn store_stat(slot: usize, memory: &Memory) -> (u32, u32) {
     match memory.row_of_slot(slot) {
         Some(row) => (state_bits(&memory.row(row)), size(&memory.row(row), memory)),
@@ -473,7 +473,7 @@ fn store_stat(slot: usize, memory: &Memory) -> (u32, u32) {
     }
 }
 
-/// Without a session a flash name has no bit set (reading 16).
+/// Rule 15.8: without a session a flash name has no bit set (reading 16).
 fn flash_stat(flash: Flash, memory: &Memory) -> (u32, u32) {
     let state = memory.row_of_blob(flash.blob()).map_or(0, |row| state_bits(&memory.row(row)));
     (state, flash_size(flash, memory))
@@ -487,7 +487,7 @@ fn session_stat(session: u16, clock: u32, memory: &mut Memory) -> Outcome {
     Ok(response)
 }
 
-/// "Bits 0 and 1 are the session's flags; 2, 3, 4 are status 1, 2, 3; bit 3 is also clean."
+/// The state bits of a session (rule 15.4).
 fn state_bits(row: &Row) -> u32 {
     let status = match row.status {
         RUNNING => BIT_COMMITTING,
@@ -499,7 +499,7 @@ fn state_bits(row: &Row) -> u32 {
     (row.flags & SESSION_FLAG_BITS) | status | clean
 }
 
-/// "Size: session's view, else committed; image and hash length; others 0."
+/// The size of a session (rule 15.5).
 fn size(row: &Row, memory: &Memory) -> u32 {
     match (row.slot(), row.flash()) {
         (Some(slot), _) if row.is_writing_store() => memory.staged_length(slot),
@@ -517,14 +517,14 @@ fn flash_size(flash: Flash, memory: &Memory) -> u32 {
     }
 }
 
-/// "State, size, metadata length 0."
+/// The fields that both send (rule 15.3).
 fn stat_response(subcommand: u8, state: u32, size: u32) -> Response {
     let [state_low, state_high, _, _] = state.to_le_bytes();
     let [a, b, c, d] = size.to_le_bytes();
     Response::with_fields(subcommand, &[state_low, state_high, a, b, c, d, 0])
 }
 
-/// "Session (CB), else D5."
+/// Never accepted (rule 16.1).
 fn write_meta(session: u16, memory: &Memory) -> Outcome {
     find_session(session, memory)?;
     Err(Code::NOT_SUPPORTED)

@@ -1,9 +1,9 @@
-//! The CRC: polynomial 0x1021, register starts at 0xFFFF, high bit first, no final change.
+//! The CRC (rules 2.1-2.4).
 
 const POLYNOMIAL: u16 = 0x1021;
 const START: u16 = 0xFFFF;
 
-/// "It runs from a table of 256 numbers."
+/// The 256 constants (rule 2.4).
 pub const TABLE: [u16; 256] = table();
 
 /// The CRC of the bytes; no bytes give 0xFFFF.
@@ -17,8 +17,7 @@ fn step(register: u16, byte: u8) -> u16 {
     u16::from_be_bytes([low, 0]) ^ entry
 }
 
-/// "Entry b is the register after b, placed in the high byte, is shifted left eight times, the polynomial combined in
-/// by exclusive or whenever a 1 leaves."
+/// What eight steps make of a register that starts with this byte in its upper half (rules 2.1 and 2.4).
 pub const fn eight_shifts(entry: u8) -> u16 {
     let mut register = u16::from_be_bytes([entry, 0]);
     let mut shifts_left: u8 = 8;

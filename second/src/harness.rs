@@ -27,7 +27,7 @@ pub struct OwnedMemory {
 }
 
 impl OwnedMemory {
-    /// "A fresh state is all zeros, Idle."
+    /// The fresh state (rule 5.11).
     pub fn fresh() -> OwnedMemory {
         OwnedMemory {
             control: vec![0; CONTROL_WORDS],

@@ -1,7 +1,7 @@
 //! Second implementation of the blob cabinet, written from document 01 alone, in plain Rust.
 //!
-//! The comments cite the rule of document 01 ("the paper") that a place follows. Decisions where the paper leaves
-//! something open are marked "Reading" with their number in READINGS.md.
+//! The comments cite the rule of docs/PROTOCOL.md that a place follows; the rules were written later, and the code owes
+//! them nothing. Where document 01 leaves a choice, "Reading" and a number point to READINGS.md.
 
 #![deny(unsafe_code)]
 

@@ -7,7 +7,7 @@ pub const OEM: [u8; 3] = [0xCF, 0xC2, 0x00];
 pub const MOST_BYTES: usize = 64;
 const HEAD_BYTES: usize = 4;
 const CRC_BYTES: usize = 2;
-/// "A Read answer at most 58."
+/// What a Read response has room for (rule 3.2).
 pub const MOST_FIELD_BYTES: usize = 58;
 
 pub const COUNT: u8 = 0;
@@ -37,7 +37,7 @@ pub enum Request<'r> {
     WriteMeta { session: u16 },
 }
 
-/// "Order: (FF;) message length; OEM number; subcommand; body length; CRC; then each command's own order."
+/// The checks that need no state, in their order (rule 7.13).
 pub fn decode(message: &[u8]) -> Result<Request<'_>, Code> {
     if message.len() > MOST_BYTES {
         return Err(Code::LENGTH);
@@ -58,7 +58,7 @@ pub fn decode(message: &[u8]) -> Result<Request<'_>, Code> {
     read_fields(*subcommand, Cursor { rest: fields }).ok_or(Code::LENGTH)
 }
 
-/// "Lengths after the 4 bytes, CRC included."
+/// Which body lengths a subcommand takes (rule 3.1).
 fn body_length_right(subcommand: u8, length: usize) -> bool {
     match subcommand {
         COUNT => length == 0,
@@ -73,7 +73,7 @@ fn body_length_right(subcommand: u8, length: usize) -> bool {
     }
 }
 
-/// The fields behind a right CRC: "if the body isn't empty, a CRC of two bytes over all that follows it, then fields".
+/// The fields behind a right CRC, where there is a body (rule 1.5).
 fn checked_fields(body: &[u8]) -> Result<&[u8], Code> {
     if body.is_empty() {
         return Ok(body);
@@ -103,7 +103,7 @@ fn read_fields(subcommand: u8, mut cursor: Cursor<'_>) -> Option<Request<'_>> {
     })
 }
 
-/// "The body is read front to back through one cursor"; all numbers are little-endian.
+/// A cursor over the body, field by field; numbers are little-endian (rule 1.1).
 struct Cursor<'r> {
     rest: &'r [u8],
 }
@@ -135,7 +135,7 @@ pub struct Response {
 }
 
 impl Response {
-    /// "A success without fields is those 4 bytes."
+    /// A response without fields: the header alone (rule 1.6).
     pub fn bare(subcommand: u8) -> Response {
         let mut response = Response { bytes: [0; MOST_BYTES], length: 0 };
         response.append(&OEM);
@@ -143,7 +143,7 @@ impl Response {
         response
     }
 
-    /// A response with its CRC, also where the fields are empty (Read).
+    /// A response with its CRC, also where the fields are empty (Read, rule 1.7).
     pub fn with_fields(subcommand: u8, fields: &[u8]) -> Response {
         let mut response = Response::bare(subcommand);
         response.append(&crc(fields).to_le_bytes());

@@ -1,4 +1,4 @@
-//! Names: "A name fills the rest of its body: 1 to 31 characters, then the only NUL."
+//! Names (rules 4.1-4.7).
 
 /// A name as a slot holds it: padded by zeros.
 pub type Padded = [u8; 32];
@@ -30,7 +30,7 @@ impl Flash {
         }
     }
 
-    /// "16-20 the flash names in the order above."
+    /// The blob number (rule 5.8).
     pub fn blob(self) -> u32 {
         match self {
             Flash::Image => 16,
@@ -76,7 +76,7 @@ fn classify(characters: &[u8]) -> Name {
     }
 }
 
-/// "A store name, `/scan/` and 1 to 25 ASCII letters or digits."
+/// Whether it is a store name (rule 4.3).
 pub fn is_store_name(characters: &[u8]) -> bool {
     match characters.strip_prefix(BASE) {
         Some(own) => {
@@ -91,7 +91,7 @@ pub fn characters(padded: &[u8]) -> &[u8] {
     padded.split(|byte| *byte == 0).next().unwrap_or(&[])
 }
 
-/// "Store names padded by zeros", at least one zero being the NUL.
+/// A slot's name field (rule 6.11); at least one zero is the NUL.
 pub fn is_padded_store_name(padded: &[u8]) -> bool {
     let own = characters(padded);
     is_store_name(own) && padded.iter().skip(own.len()).all(|byte| *byte == 0)

@@ -1,6 +1,4 @@
-//! The program: "From a fresh state the program reads records of clock (4 bytes), message length (1 byte), message, and
-//! writes per request the code in two capital hex digits and, for a success, a space and the response, two capital
-//! digits a byte without gaps; a cut record gives `CUT` last. Each line ends with a line feed."
+//! The program: records in, lines out (rules 20.1-20.5).
 
 use crate::commands::respond;
 use crate::state::{

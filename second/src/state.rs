@@ -27,7 +27,7 @@ pub const HASH_LENGTH: usize = 37;
 pub const NEXT_IDENTIFIER: usize = 38;
 pub const LAST_SWEEP: usize = 39;
 
-/// "Masks and next identifier are below 65,536."
+/// The limit of rule 6.2.
 const LIMIT: u32 = 65_536;
 
 /// Flags of a session.
@@ -79,7 +79,7 @@ impl Phase {
     }
 }
 
-/// A row of the session table: "identifier; blob; flags in bits 0-15, job status in 16-17, clean in 18; stamp".
+/// A row of the session table (rules 5.4 and 5.5).
 #[derive(Clone, Copy, Debug, PartialEq, Eq)]
 pub struct Row {
     pub identifier: u32,
@@ -275,7 +275,7 @@ impl Memory<'_> {
         put(target, source);
     }
 
-    /// A slot "free for use": mark, committed mark, lengths, name and both regions are zero.
+    /// An unused slot (rule 6.10): mark, committed mark, lengths, name and both regions are zero.
     pub fn free_slot(&mut self, slot: usize) {
         self.set_slot_used(slot, false);
         self.set_slot_committed(slot, false);
@@ -340,8 +340,8 @@ impl Memory<'_> {
     }
 }
 
-/// Whether the state is sound, clause by clause in the paper's order. (The answer buffer is no part of the memory; its
-/// length is tested where it is lent.)
+/// Whether the state is sound (rules 6.1-6.13). (The answer buffer is no part of the memory; its length is tested where
+/// it is lent.)
 ///
 /// Reading 13: regions of used slots, image and hash bytes are free. Reading 18: so are stamps and the last sweep.
 pub fn is_sound(memory: &Memory) -> bool {
@@ -368,7 +368,7 @@ fn lent_lengths_exact(memory: &Memory) -> bool {
         && memory.hash.len() == HASH_CAPACITY
 }
 
-/// "Masks and next identifier are below 65,536"; the phase is one of three (reading 1).
+/// Rule 6.2; and the phase is one of three (reading 1).
 fn values_small(memory: &Memory) -> bool {
     memory.value(ROWS_USED) < LIMIT
         && memory.value(SLOTS_USED) < LIMIT
@@ -377,7 +377,7 @@ fn values_small(memory: &Memory) -> bool {
         && memory.phase().is_some()
 }
 
-/// "Lengths fit."
+/// No length is above its capacity (rules 6.3 and 6.11).
 fn lengths_fit(memory: &Memory) -> bool {
     let slot_fits = |slot| fits(memory.committed_length(slot), SLOT_CAPACITY) && fits(memory.staged_length(slot), SLOT_CAPACITY);
     (0..SLOTS).all(slot_fits)
@@ -393,7 +393,7 @@ fn unused_rows_zero(memory: &Memory) -> bool {
     (0..ROWS).all(|row| memory.row_used(row) || memory.row(row).words() == [0; ROW_WORDS])
 }
 
-/// "Unused slots (name, committed mark, lengths, regions) are zero."
+/// Rule 6.10: nothing is left in an unused slot.
 fn unused_slots_zero(memory: &Memory) -> bool {
     (0..SLOTS).all(|slot| memory.slot_used(slot) || slot_zero(memory, slot))
 }
@@ -407,14 +407,14 @@ fn slot_zero(memory: &Memory, slot: usize) -> bool {
         && all_zero(memory.staged_region(slot))
 }
 
-/// "Used slots have different store names padded by zeros."
+/// Rules 6.11 and 6.13: the names of used slots.
 fn used_slots_named(memory: &Memory) -> bool {
     let used = || (0..SLOTS).filter(|slot| memory.slot_used(*slot));
     used().all(|slot| is_padded_store_name(memory.name(slot)))
         && used().all(|slot| used().all(|other| other == slot || memory.name(other) != memory.name(slot)))
 }
 
-/// "Used rows have different identifiers [..] and different blobs."
+/// Rule 6.9: no identifier and no blob twice.
 fn used_rows_different(memory: &Memory) -> bool {
     let differ = |one: &Row, other: &Row| one.identifier != other.identifier && one.blob != other.blob;
     memory
@@ -422,7 +422,7 @@ fn used_rows_different(memory: &Memory) -> bool {
         .all(|row| memory.used_rows().all(|other| other == row || differ(&memory.row(row), &memory.row(other))))
 }
 
-/// "At most one row is flash."
+/// Rule 6.9: one flash row at most.
 fn at_most_one_flash_row(memory: &Memory) -> bool {
     memory.used_rows().filter(|row| memory.row(*row).flash().is_some()).count() <= 1
 }
@@ -438,8 +438,7 @@ fn row_allowed(memory: &Memory, row: &Row) -> bool {
         }
 }
 
-/// A store row: "each slot named being in use"; flags 0x0001 or 0x0003; no status; "clean stands only on store rows of
-/// committed slots, and always on a read-only row".
+/// A store row (rule 6.6).
 fn store_row_allowed(memory: &Memory, row: &Row, slot: usize) -> bool {
     memory.slot_used(slot)
         && (row.flags == FLAGS_READ || row.flags == FLAGS_READ_WRITE)
@@ -448,15 +447,14 @@ fn store_row_allowed(memory: &Memory, row: &Row, slot: usize) -> bool {
         && (!row.is_read_only_store() || row.clean)
 }
 
-/// A flash row: flags 0x0002, never clean, and status and phase as the kind demands.
+/// A flash row (rule 6.7), with status and phase as the kind demands.
 fn flash_row_allowed(memory: &Memory, row: &Row, flash: Flash) -> bool {
     row.flags == FLAGS_FLASH
         && !row.clean
         && memory.phase().is_some_and(|phase| status_and_phase_allowed(flash, row.status, phase))
 }
 
-/// "Status is nonzero only on verify, update (1-3) and cleanup (2)." "Image or hash row: Uploading. Verify row: not
-/// Idle, and Uploading if tried. Update row: Verified. Cleanup row at 2: Idle."
+/// Which status goes with which phase (rule 6.8).
 fn status_and_phase_allowed(flash: Flash, status: u32, phase: Phase) -> bool {
     match flash {
         Flash::Image | Flash::Hash => status == UNTRIED && phase == Phase::Uploading,
@@ -466,7 +464,7 @@ fn status_and_phase_allowed(flash: Flash, status: u32, phase: Phase) -> bool {
     }
 }
 
-/// "A used slot not committed has committed length 0 and a writing row; staged length is 0 without one."
+/// Rule 6.12: what a slot has by its writer.
 fn used_slot_fits_its_row(memory: &Memory, slot: usize) -> bool {
     if !memory.slot_used(slot) {
         return true;
@@ -476,7 +474,7 @@ fn used_slot_fits_its_row(memory: &Memory, slot: usize) -> bool {
     committed_part && (writing || memory.staged_length(slot) == 0)
 }
 
-/// "In Idle both flash lengths are 0."
+/// Rule 6.3: in Idle the flash is empty.
 fn idle_lengths_zero(memory: &Memory) -> bool {
     memory.phase() != Some(Phase::Idle) || (memory.value(IMAGE_LENGTH) == 0 && memory.value(HASH_LENGTH) == 0)
 }

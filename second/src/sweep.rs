@@ -1,5 +1,4 @@
-//! The sweep: "due when clock ≥ last sweep + 60, sums unbounded. It acts as Close on each session with clock > stamp +
-//! 600 and status not 1, then notes the clock."
+//! The sweep (rules 18.3-18.5).
 
 use crate::commands::close_row;
 use crate::state::{Memory, Row, LAST_SWEEP, ROWS, RUNNING};

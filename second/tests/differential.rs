@@ -1,6 +1,6 @@
 //! The differential test: this package's implementation against the library (feature `library`), or against itself
 //! without it. Two workers share the parts; at the end a table of all commands and codes is printed, and it is tested
-//! that every code of every command that the paper allows was reached.
+//! that every code that the rules allow a command was reached.
 //!
 //! The first difference ends the run with its report, whether or not panics unwind in the linked binary (a static
 //! library made by a compiler of the same kind may bring its own way to panic).

@@ -1,5 +1,5 @@
-//! Document 01's "Numbers to try", its program paragraph, its builder's errors, and each row of the completion code
-//! table.
+//! The examples of docs/PROTOCOL.md and of document 01, four errors that are easily made, and each completion code
+//! (rules 7.1-7.11).
 
 use second::crc::{crc, eight_shifts, TABLE};
 use second::harness::{self as h, Implementation, OwnedMemory, Second};
@@ -97,7 +97,7 @@ fn state_and_size(response: &[u8]) -> (u16, u32) {
     (state, u32::from_le_bytes(response[8..12].try_into().unwrap()))
 }
 
-// ---- Numbers to try ----
+// ---- Examples ----
 
 #[test]
 fn crc_numbers() {
@@ -284,7 +284,7 @@ fn program_answers_after_65_bytes() {
     assert_eq!(second::run::run(&record(0, &message)), "C7\n");
 }
 
-// ---- The completion code table ----
+// ---- The completion codes ----
 
 #[test]
 fn ff_state_not_sound() {
@@ -691,7 +691,7 @@ fn no_memory_makes_it_panic() {
     }
 }
 
-// ---- Errors an honest builder makes ----
+// ---- Likely errors ----
 
 #[test]
 fn error_1_first_letters() {

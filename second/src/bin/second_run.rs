@@ -1,4 +1,4 @@
-//! `second_run FILE`, or without a file standard input: the program of document 01.
+//! `second_run FILE`, or without a file standard input: the program (section 20 of docs/PROTOCOL.md).
 
 use std::io::{Read, Write};
 use std::process::ExitCode;

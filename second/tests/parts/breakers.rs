@@ -11,7 +11,7 @@ use second::state::{
 pub type Breaker = fn(&mut Random, &mut OwnedMemory) -> bool;
 
 pub const BREAKERS: &[(&str, Breaker)] = &[
-    // "Masks and next identifier are below 65,536", and the phase is one of three.
+    // Rule 6.2, and the phase.
     ("rows mask too large", |r, m| high_bit(r, &mut m.control[ROWS_USED])),
     ("slots mask too large", |r, m| high_bit(r, &mut m.control[SLOTS_USED])),
     ("committed mask too large", |r, m| {
@@ -21,7 +21,7 @@ pub const BREAKERS: &[(&str, Breaker)] = &[
         high_bit(r, &mut m.control[NEXT_IDENTIFIER])
     }),
     ("phase unknown", phase_unknown),
-    // "Lengths fit."
+    // Lengths above the capacity (rules 6.3 and 6.11).
     ("committed length too large", |r, m| {
         at_slot(r, m, OwnedMemory::slot_committed, |r, m, slot| {
             too_long(r, &mut m.control[COMMITTED_LENGTHS + slot], 4096)
@@ -38,7 +38,7 @@ pub const BREAKERS: &[(&str, Breaker)] = &[
     ("hash length too large", |r, m| {
         m.control[PHASE] != 0 && too_long(r, &mut m.control[HASH_LENGTH], 64)
     }),
-    // "Unused rows and unused slots (name, committed mark, lengths, regions) are zero."
+    // Something left in an unused row or slot (rules 6.4 and 6.10).
     ("unused row with identifier", |r, m| unused_row(r, m, 0)),
     ("unused row with blob", |r, m| unused_row(r, m, 1)),
     ("unused row with bits", |r, m| unused_row(r, m, 2)),
@@ -71,7 +71,7 @@ pub const BREAKERS: &[(&str, Breaker)] = &[
             set(&mut m.staged[region(slot)][SLOT_CAPACITY - 1], |_| 1)
         })
     }),
-    // "Used slots have different store names padded by zeros."
+    // Names of used slots (rules 6.11 and 6.13).
     ("name all zero", |r, m| rename(r, m, b"")),
     ("name is the base", |r, m| rename(r, m, b"/scan/")),
     ("name is flash", |r, m| rename(r, m, b"/flash/image")),
@@ -91,7 +91,7 @@ pub const BREAKERS: &[(&str, Breaker)] = &[
     }),
     ("rubbish behind the NUL", rubbish_behind_name),
     ("two slots with the same name", same_names),
-    // "Used rows have different identifiers up to 65,535 and different blobs up to 20, each slot named being in use."
+    // Identifiers and blobs of used rows, and their slots (rules 6.5, 6.6 and 6.9).
     ("identifier too large", |r, m| {
         change_row(r, m, any_row, |r, row| row.identifier += 65_536 << r.below(15))
     }),
@@ -108,7 +108,7 @@ pub const BREAKERS: &[(&str, Breaker)] = &[
     ("writing row of an unused slot", |r, m| {
         row_of_unused_slot(r, m, FLAGS_READ_WRITE)
     }),
-    // "At most one row is flash", also of the same kind (reading 17: that breaks two clauses).
+    // A second flash row (rule 6.9), also of the same kind (reading 17: that breaks two clauses).
     ("image and hash rows", |r, m| {
         two_flash(r, m, 1, (Flash::Image, 0), (Flash::Hash, 0))
     }),
@@ -121,7 +121,7 @@ pub const BREAKERS: &[(&str, Breaker)] = &[
     ("two cleanup rows", |r, m| {
         two_flash(r, m, 0, (Flash::Cleanup, 0), (Flash::Cleanup, 0))
     }),
-    // "Flags are allowed."
+    // Flags (rules 6.6 and 6.7).
     ("store row with flags 0", |r, m| set_flags(r, m, is_store, 0)),
     ("read-only row with flags 2", |r, m| set_flags(r, m, is_read_only, 2)),
     ("writing row with flags 2", |r, m| set_flags(r, m, is_writing, 2)),
@@ -130,7 +130,7 @@ pub const BREAKERS: &[(&str, Breaker)] = &[
     ("flash row with flags 1", |r, m| set_flags(r, m, is_flash, 1)),
     ("flash row with flags 3", |r, m| set_flags(r, m, is_flash, 3)),
     ("flash row with more flags", |r, m| more_flags(r, m, is_flash)),
-    // "Status is nonzero only on verify, update (1-3) and cleanup (2)."
+    // A status that the blob has not (rules 6.6 and 6.8).
     ("status on a store row", |r, m| {
         change_row(r, m, is_store, |r, row| row.status = r.between(1, 3) as u32)
     }),
@@ -140,11 +140,11 @@ pub const BREAKERS: &[(&str, Breaker)] = &[
     ("status on a hash row", |r, m| status_on(r, m, Flash::Hash, &[1, 2, 3])),
     ("cleanup running", |r, m| status_on(r, m, Flash::Cleanup, &[1])),
     ("cleanup failed", |r, m| status_on(r, m, Flash::Cleanup, &[3])),
-    // "Remaining bits are zero."
+    // A bit above clean (rule 6.5).
     ("remaining bits", |r, m| {
         change_row(r, m, any_row, |r, row| row.remaining = 1 << r.below(13))
     }),
-    // "A used slot not committed has committed length 0 and a writing row; staged length is 0 without one."
+    // Slots and their writers (rule 6.12).
     ("committed length of a new slot", |r, m| {
         at_slot(r, m, is_new_slot, some_committed_length)
     }),
@@ -167,12 +167,11 @@ pub const BREAKERS: &[(&str, Breaker)] = &[
     ("staged length with a read-only row", |r, m| {
         at_slot(r, m, has_read_only_row, some_staged_length)
     }),
-    // "Clean stands only on store rows of committed slots, and always on a read-only row."
+    // Clean (rules 6.6 and 6.7).
     ("clean flash row", |r, m| set_clean(r, m, is_flash, true)),
     ("clean row of a new slot", |r, m| set_clean(r, m, is_of_new_slot, true)),
     ("read-only row not clean", |r, m| set_clean(r, m, is_read_only, false)),
-    // "Image or hash row: Uploading. Verify row: not Idle, and Uploading if tried. Update row: Verified. Cleanup row at
-    // 2: Idle."
+    // Status against phase (rule 6.8).
     ("image row in Idle", |r, m| flash_row(r, m, 0, Flash::Image, 0)),
     ("image row in Verified", |r, m| flash_row(r, m, 2, Flash::Image, 0)),
     ("hash row in Idle", |r, m| flash_row(r, m, 0, Flash::Hash, 0)),
@@ -195,7 +194,7 @@ pub const BREAKERS: &[(&str, Breaker)] = &[
     ("cleanup row at 2 in Verified", |r, m| {
         flash_row(r, m, 2, Flash::Cleanup, 2)
     }),
-    // "In Idle both flash lengths are 0."
+    // Lengths in Idle (rule 6.3).
     ("image length in Idle", |r, m| {
         m.control[PHASE] == 0 && some_length(r, &mut m.control[IMAGE_LENGTH])
     }),

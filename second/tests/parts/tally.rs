@@ -22,7 +22,7 @@ pub const COMMANDS: [&str; 13] = [
 ];
 pub const CODES: [u8; 11] = [0x00, 0xFF, 0xC7, 0xCC, 0xC1, 0xCB, 0xC9, 0xC8, 0xC4, 0xC0, 0xD5];
 
-/// Which codes each command may give, from the paper. "(frame)" are messages that reach no subcommand up to 10: too
+/// Which codes each command may give, by the rules. "(frame)" are messages that reach no subcommand up to 10: too
 /// short or too long (C7), another OEM number (CC), a subcommand over 10 (C1).
 pub const ALLOWED: [&[u8]; 13] = [
     &[0x00, 0xFF, 0xC7],
