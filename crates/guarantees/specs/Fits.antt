@@ -23,14 +23,14 @@ use Rattle.protocol.specs.declared.Request.{Request}
 use Rattle.protocol.specs.declared.Request.the-variants.{Count, Enumerate, Open, Read, Write, Commit, Close, Delete, Stat, SessionStat, WriteMeta, Refused}
 use Rattle.state.specs.declared.Phase.{Phase}
 use Rattle.state.specs.State.{State, Row, Slot, FlashBody, Place, slot, flash, Body, placeOf, inRow, inBody}
-use Rattle.state.specs.Words.{blobOf, wordOf, statusOf, writes, blob}
+use Rattle.state.specs.Words.{blobOf, wordOf, statusOf, writes, blob, storeFlags, flashFlags, writesWith}
 use Rattle.state.specs.Soundness.{slotAt, isSound}
 use Rattle.rules.specs.Store.{readStore, stored, writeStore, commitWriting, commitStore, onStore, seenLength}
 use Rattle.rules.specs.Command.{Command, read, write, commit, stat, close, writeMeta, endJob, commitFits, Out, stateBits}
 use Rattle.rules.specs.Flash.{writeFlash, startable, verifyJob, updateJob, commitKind, commitFlash, closeFlash, jobEnds, onFlash, flashLength}
 use Rattle.rules.specs.Session.{onPart, Address, by, job, meant, onFound, onSession, statPart, statRow}
 use Rattle.rules.specs.Sweep.{swept}
-use Rattle.rules.specs.Open.{slotNamed, rowOn, freeRowIn, freeSlotIn, opened, openNew, openFree, openHeld, openNamed, storeFlags, openStore, flashListed, openFlashFree, openFlashQuiet, openFlashListed, flashFlags, openFlash, openBlob, deleteQuiet, deleteNamed, deleteBlob, statSlot, statNamed, statKind, statBlob}
+use Rattle.rules.specs.Open.{slotNamed, rowOn, freeRowIn, freeSlotIn, opened, openNew, openFree, openHeld, openNamed, openStore, flashListed, openFlashFree, openFlashQuiet, openFlashListed, openFlash, openBlob, deleteQuiet, deleteNamed, deleteBlob, statSlot, statNamed, statKind, statBlob}
 use Rattle.rules.specs.Listing.{only, listedFlash, committedNames, flashNames, listed, enumerated, count}
 use Rattle.rules.specs.Respond.{Effect, effectOf, unsound, answered, respond}
 use Rattle.guarantees.specs.Naming.{name-bound}
@@ -176,7 +176,7 @@ abbrev Brief : Reply × State → Type 0
 Brief o = Short (o .0)
 
 short-named : (o : Option ℕ) (n : List ℕ) (flags t : ℕ) (s : State) → Short (openNamed o n flags t s .0)
-short-named none n flags t s = cond-has Brief (eqb flags readOnly) (refused notFound, s) (openNew (freeRowIn s) (freeSlotIn s) n flags t s) tt (short-new (freeRowIn s) (freeSlotIn s) n flags t s)
+short-named none n flags t s = cond-has Brief (writesWith flags) (openNew (freeRowIn s) (freeSlotIn s) n flags t s) (refused notFound, s) (short-new (freeRowIn s) (freeSlotIn s) n flags t s) tt
 short-named (some k) n flags t s = short-held (rowOn k s) k flags t s
 
 short-open-store : (n : List ℕ) (flags t : ℕ) (s : State) → Short (openStore n flags t s .0)

@@ -29,7 +29,7 @@ use Rattle.protocol.specs.declared.Request.the-variants.{Count, Enumerate, Open
 use Rattle.state.specs.declared.Phase.the-variants.{Uploading, Verified}
 use Rattle.state.specs.State.{State, Row, Slot, FlashBody, Place, slot, flash, Body, placeOf, inRow, inBody, cell}
 use Rattle.state.specs.Parts.{cell-row-other, row-put, row-view-fits}
-use Rattle.state.specs.Words.{blobOf, wordOf, stampOf, flagsIn, statusIn, statusOf, cleanOf, wordWith, stamped, withStatus, emptyFlash, blob, inUse, Live, fresh, status-with, freeSlot}
+use Rattle.state.specs.Words.{blobOf, wordOf, stampOf, flagsIn, statusIn, statusOf, cleanOf, wordWith, stamped, withStatus, emptyFlash, blob, inUse, Live, fresh, status-with, freeSlot, storeFlags, flashFlags, writesWith, store-flags}
 use Rattle.state.specs.Soundness.{isSound, slotAt}
 use Rattle.state.specs.Facts.{FlashSession, PhaseOk, Session, Sound}
 use Rattle.state.specs.Fresh.{fresh-sound}
@@ -38,7 +38,7 @@ use Rattle.rules.specs.Command.{Command, read, write, commit, stat, close, writ
 use Rattle.rules.specs.Flash.{withPhase, writeFlash, startable, verifyJob, updateJob, commitKind, commitFlash, closedFlash, closeFlash, jobEnds, onFlash}
 use Rattle.rules.specs.Session.{onPart, onPlace, onRow, Address, by, job, meant, onFound, onSession}
 use Rattle.rules.specs.Sweep.{stale, sweepRow, sweepRows, noted, due, swept}
-use Rattle.rules.specs.Open.{slotNamed, rowOn, freeRowIn, freeSlotIn, freshId, newRow, opened, newSlot, heldSlot, openNew, openFree, openHeld, openNamed, storeFlags, openStore, flashListed, openedFlash, openFlashFree, openFlashQuiet, openFlashListed, flashFlags, openFlash, openBlob, deleteQuiet, deleteNamed, deleteBlob}
+use Rattle.rules.specs.Open.{slotNamed, rowOn, freeRowIn, freeSlotIn, freshId, newRow, opened, newSlot, heldSlot, openNew, openFree, openHeld, openNamed, openStore, flashListed, openedFlash, openFlashFree, openFlashQuiet, openFlashListed, openFlash, openBlob, deleteQuiet, deleteNamed, deleteBlob}
 use Rattle.rules.specs.Respond.{Effect, answered, respond}
 use Rattle.rules.specs.Laws.{respond-is, job-is, cond-has, placed-has}
 use Rattle.rules.specs.Change.{Proper, row-new, row-old, Was, was}
@@ -493,11 +493,11 @@ unfolding openStore
 opening-store n flags t x g = go (storeFlags flags) refl
   where
     low : storeFlags flags ≡ true → flags < statusUnit
-    low h = at (or-true _ _ h)
+    low h = at (store-flags flags h)
       where
-        at : Or (eqb flags readOnly ≡ true) (eqb flags readWrite ≡ true) → flags < statusUnit
-        at (this e) = let z = eqb-true flags readOnly e in omega arith
-        at (that e) = let z = eqb-true flags readWrite e in omega arith
+        at : Or (flags ≡ readOnly) (flags ≡ readWrite) → flags < statusUnit
+        at (this e) = omega arith
+        at (that e) = omega arith
 
     free : flags < statusUnit → (k : ℕ) → (o : Option ℕ) → freeRowIn x ≡ o → Opening x (openFree o k flags t x .1)
     free l k none e = opening-same x
@@ -512,12 +512,12 @@ opening-store n flags t x g = go (storeFlags flags) refl
     new l (some r) none e = opening-same x
     new l (some r) (some k) e = opening-slot x g r (free-row x r e) k flags 0 t l (omega arith) k (newSlot n)
 
-    absent : flags < statusUnit → (y : Bool) → Opening x (cond y (refused notFound, x) (openNew (freeRowIn x) (freeSlotIn x) n flags t x) .1)
-    absent l true = opening-same x
-    absent l false = new l (freeRowIn x) (freeSlotIn x) refl
+    absent : flags < statusUnit → (y : Bool) → Opening x (cond y (openNew (freeRowIn x) (freeSlotIn x) n flags t x) (refused notFound, x) .1)
+    absent l true = new l (freeRowIn x) (freeSlotIn x) refl
+    absent l false = opening-same x
 
     named : flags < statusUnit → (o : Option ℕ) → Opening x (openNamed o n flags t x .1)
-    named l none = absent l (eqb flags readOnly)
+    named l none = absent l (writesWith flags)
     named l (some k) = held l k (rowOn k x)
 
     go : (y : Bool) → storeFlags flags ≡ y → Opening x (cond y (openNamed (slotNamed n x) n flags t x) (refused invalid, x) .1)

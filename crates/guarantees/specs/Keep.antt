@@ -26,7 +26,7 @@ use Rattle.protocol.specs.declared.Request.the-variants.{Count, Enumerate, Open
 use Rattle.state.specs.declared.Phase.the-variants.{Idle, Uploading}
 use Rattle.state.specs.State.{State, Slot, FlashBody, Place, slot, flash, Body, placeOf, inRow, inBody, cell}
 use Rattle.state.specs.Parts.{Separate, FitsSlot, FitsBody, body-shape, body-get-put, row-body, body-indep, body-view-fits}
-use Rattle.state.specs.Words.{wordOf, ident, blob, inUse, Live, freeSlot, wordWith, flagsIn, statusIn, cleanIn, writingIn}
+use Rattle.state.specs.Words.{wordOf, ident, blob, inUse, Live, freeSlot, wordWith, flagsIn, statusIn, cleanIn, writingIn, storeFlags, flashFlags, writesWith, writeBit, store-flags, store-reads, store-writes}
 use Rattle.state.specs.Soundness.{slotAt, isSound}
 use Rattle.state.specs.Facts.{StoreFacts, StoreIdle, FlashIdle, PhaseOk, Session, Sound}
 use Rattle.state.specs.Fresh.{free-idle}
@@ -35,7 +35,7 @@ use Rattle.rules.specs.Store.{withStaged}
 use Rattle.rules.specs.Command.{Command, close, endJob}
 use Rattle.rules.specs.Session.{Address, job, meant, onRow, onFound, onSession}
 use Rattle.rules.specs.Sweep.{stale, sweepRow, sweepRows, noted, due, swept}
-use Rattle.rules.specs.Open.{slotNamed, rowOn, freeRowIn, freeSlotIn, after, freshId, newRow, opened, newSlot, heldSlot, openNew, openFree, openHeld, openNamed, storeFlags, openStore, flashListed, openedFlash, openFlashFree, openFlashQuiet, openFlashListed, flashFlags, openFlash, openBlob, deleteQuiet, deleteNamed, deleteBlob}
+use Rattle.rules.specs.Open.{slotNamed, rowOn, freeRowIn, freeSlotIn, after, freshId, newRow, opened, newSlot, heldSlot, openNew, openFree, openHeld, openNamed, openStore, flashListed, openedFlash, openFlashFree, openFlashQuiet, openFlashListed, openFlash, openBlob, deleteQuiet, deleteNamed, deleteBlob}
 use Rattle.rules.specs.Respond.{Effect, answered, respond, jobOutcome}
 use Rattle.rules.specs.Laws.{respond-is, job-is}
 use Rattle.rules.specs.Change.{change-sound, NewName, added-sound, values-sound}
@@ -123,7 +123,7 @@ new-sound n t r k s g nm none-held fr fs =
     (λ (sm : freshId s < sixteenBits). record {
       id-small = sm;
       on-slot = refl;
-      flags = refl;
+      flags = store-writes;
       no-status = refl;
       rest-zero = omega arith;
       is-held = refl;
@@ -154,7 +154,7 @@ held-sound flags t r k s g fl fr fs quiet = go fl
     marked : slotAt k s .mark ≡ 1
     marked = sym (idle .held-marked) ∙ fs .1
 
-    facts : (f : ℕ) (sm : freshId s < sixteenBits) (d : Slot) → flagsIn (wordWith f 0 1) ≡ 1 + 2 * writingIn (wordWith f 0 1) → statusIn (wordWith f 0 1) ≡ 0 → wordWith f 0 1 < wordLimit → cleanIn (wordWith f 0 1) ≡ 1
+    facts : (f : ℕ) (sm : freshId s < sixteenBits) (d : Slot) → storeFlags (flagsIn (wordWith f 0 1)) ≡ true → statusIn (wordWith f 0 1) ≡ 0 → wordWith f 0 1 < wordLimit → cleanIn (wordWith f 0 1) ≡ 1
         → d .held ≡ 1 → d .mark ≡ 1 → d .committedLen ≤ slotSize → d .stagedLen ≤ slotSize → (writingIn (wordWith f 0 1) ≡ 0 → d .stagedLen ≡ 0) → d .name ≡ slotAt k s .name
         → StoreFacts k (freshId s) k (wordWith f 0 1) d
     facts f sm d a b c e hd mk cf sf us nm = record {
@@ -179,7 +179,7 @@ held-sound flags t r k s g fl fr fs quiet = go fl
 
     reader : Sound (opened (slot k) r k readOnly 1 t (heldSlot readOnly (slotAt k s)) s .1)
     reader = opened-sound s g r (fr .0) (fr .1) (slot k) k readOnly 1 t (slotAt k s) (place-slot k (fs .0)) lone (fs .0, fit)
-        (λ (sm : freshId s < sixteenBits). facts 1 sm (slotAt k s) refl refl (omega arith) refl (fs .1) marked (idle .idle-committed) (let z = idle .idle-staged in omega arith)
+        (λ (sm : freshId s < sixteenBits). facts readOnly sm (slotAt k s) store-reads refl (omega arith) refl (fs .1) marked (idle .idle-committed) (let z = idle .idle-staged in omega arith)
         (λ (z : _≡_ {A = ℕ} 0 0). idle .idle-staged) refl)
         others
 
@@ -189,7 +189,7 @@ held-sound flags t r k s g fl fr fs quiet = go fl
     writer : Sound (opened (slot k) r k readWrite 1 t (heldSlot readWrite (slotAt k s)) s .1)
     writer = opened-sound s g r (fr .0) (fr .1) (slot k) k readWrite 1 t copy (place-slot k (fs .0)) lone
         (fs .0, record { name-long = fit .name-long; committed-long = fit .committed-long; staged-long = fit .committed-long; held-flag = fit .held-flag; mark-flag = fit .mark-flag })
-        (λ (sm : freshId s < sixteenBits). facts 3 sm copy refl refl (omega arith) refl (fs .1) marked (idle .idle-committed) (idle .idle-committed) (λ (z : _≡_ {A = ℕ} 1 0). absurd (omega arith)) refl)
+        (λ (sm : freshId s < sixteenBits). facts readWrite sm copy store-writes refl (omega arith) refl (fs .1) marked (idle .idle-committed) (idle .idle-committed) (λ (z : _≡_ {A = ℕ} 1 0). absurd (omega arith)) refl)
         others
 
     go : Or (flags ≡ readOnly) (flags ≡ readWrite) → Sound (opened (slot k) r k flags 1 t (heldSlot flags (slotAt k s)) s .1)
@@ -200,13 +200,6 @@ open-store-sound : (n : List ℕ) (flags t : ℕ) (s : State) → Sound s → st
 unfolding openStore
 open-store-sound n flags t s g nm = go (storeFlags flags) refl
   where
-    allowed : storeFlags flags ≡ true → Or (flags ≡ readOnly) (flags ≡ readWrite)
-    allowed h = at (or-true _ _ h)
-      where
-        at : Or (eqb flags readOnly ≡ true) (eqb flags readWrite ≡ true) → Or (flags ≡ readOnly) (flags ≡ readWrite)
-        at (this e) = this (eqb-true _ _ e)
-        at (that e) = that (eqb-true _ _ e)
-
     free : Or (flags ≡ readOnly) (flags ≡ readWrite) → (k : ℕ) → (k < slotCount) × (slotAt k s .held ≡ 1) → rowOn k s ≡ none → (o : Option ℕ) → freeRowIn s ≡ o → Sound (openFree o k flags t s .1)
     free fl k fs quiet none e = g
     free fl k fs quiet (some r) e = held-sound flags t r k s g fl (free-row s r e) fs quiet
@@ -220,20 +213,20 @@ open-store-sound n flags t s g nm = go (storeFlags flags) refl
     new w h (some r) none e f = g
     new w h (some r) (some k) e f = subst (λ (x : ℕ). Sound (opened (slot k) r k x 0 t (newSlot n) s .1)) (sym w) (new-sound n t r k s g nm h (free-row s r e) (free-slot s k f))
 
-    writing : Or (flags ≡ readOnly) (flags ≡ readWrite) → flags ≢ readOnly → flags ≡ readWrite
-    writing (this e) m = absurd (m e)
-    writing (that e) m = e
+    writing : Or (flags ≡ readOnly) (flags ≡ readWrite) → writesWith flags ≡ true → flags ≡ readWrite
+    writing (this e) w = absurd (let z = eqb-true (writeBit flags) 1 w in omega arith)
+    writing (that e) w = e
 
-    absent : Or (flags ≡ readOnly) (flags ≡ readWrite) → slotNamed n s ≡ none → (y : Bool) → eqb flags readOnly ≡ y → Sound (cond y (refused notFound, s) (openNew (freeRowIn s) (freeSlotIn s) n flags t s) .1)
-    absent fl h true q = g
-    absent fl h false q = new (writing fl (eqb-false flags readOnly q)) h (freeRowIn s) (freeSlotIn s) refl refl
+    absent : Or (flags ≡ readOnly) (flags ≡ readWrite) → slotNamed n s ≡ none → (y : Bool) → writesWith flags ≡ y → Sound (cond y (openNew (freeRowIn s) (freeSlotIn s) n flags t s) (refused notFound, s) .1)
+    absent fl h true q = new (writing fl q) h (freeRowIn s) (freeSlotIn s) refl refl
+    absent fl h false q = g
 
     named : Or (flags ≡ readOnly) (flags ≡ readWrite) → (o : Option ℕ) → slotNamed n s ≡ o → Sound (openNamed o n flags t s .1)
-    named fl none e = absent fl e (eqb flags readOnly) refl
+    named fl none e = absent fl e (writesWith flags) refl
     named fl (some k) e = let a = named-slot n s k e in held fl k (a .0, a .1) (rowOn k s) refl
 
     go : (y : Bool) → storeFlags flags ≡ y → Sound (cond y (openNamed (slotNamed n s) n flags t s) (refused invalid, s) .1)
-    go true h = named (allowed h) (slotNamed n s) refl
+    go true h = named (store-flags flags h) (slotNamed n s) refl
     go false h = g
 
 -- ---- Open, of a flash name

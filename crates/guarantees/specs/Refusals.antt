@@ -21,14 +21,14 @@ use Rattle.protocol.specs.declared.Request.{Request}
 use Rattle.protocol.specs.declared.Request.the-variants.{Count, Enumerate, Open, Read, Write, Commit, Close, Delete, Stat, SessionStat, WriteMeta, Refused}
 use Rattle.state.specs.State.{State, Row, Slot, FlashBody, Place, slot, flash, Body, placeOf, inRow, inBody, cell}
 use Rattle.state.specs.Parts.{cell-steady}
-use Rattle.state.specs.Words.{blobOf, statusOf, writes, blob}
+use Rattle.state.specs.Words.{blobOf, statusOf, writes, blob, storeFlags, flashFlags, writesWith}
 use Rattle.state.specs.Soundness.{isSound}
 use Rattle.rules.specs.Store.{readStore, stored, writeStore, commitWriting, commitStore, onStore}
 use Rattle.rules.specs.Command.{Command, read, write, commit, stat, close, writeMeta, endJob, commitFits}
 use Rattle.rules.specs.Flash.{writeFlash, startable, verifyJob, updateJob, commitKind, commitFlash, closeFlash, jobEnds, onFlash}
 use Rattle.rules.specs.Session.{onPart, onPlace, Address, job, meant, onFound, onSession}
 use Rattle.rules.specs.Sweep.{swept}
-use Rattle.rules.specs.Open.{slotNamed, rowOn, freeRowIn, freeSlotIn, opened, openNew, openFree, openHeld, openNamed, storeFlags, openStore, flashListed, openFlashFree, openFlashQuiet, openFlashListed, flashFlags, openFlash, openBlob, deleteQuiet, deleteNamed, deleteBlob}
+use Rattle.rules.specs.Open.{slotNamed, rowOn, freeRowIn, freeSlotIn, opened, openNew, openFree, openHeld, openNamed, openStore, flashListed, openFlashFree, openFlashQuiet, openFlashListed, openFlash, openBlob, deleteQuiet, deleteNamed, deleteBlob}
 use Rattle.rules.specs.Respond.{Effect, effectOf, unsound, answered, respond, silent, jobOutcome}
 use Rattle.rules.specs.Laws.{cond-has, placed-has}
 
@@ -165,7 +165,7 @@ keep-held none k flags t s = keep-free (freeRowIn s) k flags t s
 keep-held (some q) k flags t s = λ h. refl
 
 keep-named : (o : Option ℕ) (n : List ℕ) (flags t : ℕ) (s : State) → Keeps s (openNamed o n flags t s)
-keep-named none n flags t s = cond-has (Keeps s) (eqb flags readOnly) (refused notFound, s) (openNew (freeRowIn s) (freeSlotIn s) n flags t s) (λ h. refl) (keep-new (freeRowIn s) (freeSlotIn s) n flags t s)
+keep-named none n flags t s = cond-has (Keeps s) (writesWith flags) (openNew (freeRowIn s) (freeSlotIn s) n flags t s) (refused notFound, s) (keep-new (freeRowIn s) (freeSlotIn s) n flags t s) (λ h. refl)
 keep-named (some k) n flags t s = keep-held (rowOn k s) k flags t s
 
 keep-open-store : (n : List ℕ) (flags t : ℕ) (s : State) → Keeps s (openStore n flags t s)

@@ -12,12 +12,13 @@ use Rattle.protocol.specs.Numbers.{slotCount, readOnly, notFound, noRoom, busy,
 use Rattle.protocol.specs.Frame.{refused}
 use Rattle.state.specs.State.{State, Slot, inBody, slot}
 use Rattle.state.specs.Soundness.{slotAt}
-use Rattle.rules.specs.Open.{rowOn, freeRowIn, freeSlotIn, openNew, openFree, openHeld, openNamed, openStore, slotNamed, storeFlags, newSlot, heldSlot}
+use Rattle.rules.specs.Open.{rowOn, freeRowIn, freeSlotIn, openNew, openFree, openHeld, openNamed, openStore, slotNamed, newSlot, heldSlot}
 use Rattle.memory_slots.specs.Lookup.{rowSought, by-blob}
 use Rattle.memory_slots.specs.declared.Wanted.the-variants.{Blob}
 use Rattle.places.specs.Search.{holds, slot-named, free-row, free-slot}
 use Rattle.open_steps.specs.Steps.{FreeZero, named, rowOpened}
 use Rattle.open_steps.specs.Laws.{opened-is}
+use Rattle.state.specs.Words.{storeFlags}
 
 -- ---- a new name
 module _ (n : List ℕ) (flags t : ℕ) (s : State) where

@@ -19,7 +19,7 @@ use Rattle.protocol.specs.declared.Blob.the-variants.{Store, Flash, Base, Unkno
 use Rattle.state.specs.declared.Phase.{Phase}
 use Rattle.state.specs.declared.Phase.the-variants.{Uploading}
 use Rattle.state.specs.State.{State, Row, Slot, FlashBody, Place, slot, flash, Body, inBody, cell}
-use Rattle.state.specs.Words.{wordWith, freeSlot, blob, inUse}
+use Rattle.state.specs.Words.{wordWith, freeSlot, blob, inUse, writesWith, storeFlags, flashFlags}
 use Rattle.state.specs.Soundness.{slotAt, isIdle, isVerified}
 use Rattle.rules.specs.Store.{withStaged}
 use Rattle.rules.specs.Flash.{withImage, withHash, withPhase, flashLength}
@@ -74,7 +74,7 @@ newSlot n = record { name = padded nameSize n; committedBytes = replicate slotSi
 
 -- "Writing a held name copies the whole committed region and length to staged, clean"; "A read-only row is clean."
 abbrev pub heldSlot : ℕ → Slot → Slot
-heldSlot flags b = cond (eqb flags readWrite) (withStaged (b .committedBytes) (b .committedLen) b) b
+heldSlot flags b = cond (writesWith flags) (withStaged (b .committedBytes) (b .committedLen) b) b
 
 -- "row, then slot (C4)"
 abbrev pub openNew : Option ℕ → Option ℕ → List ℕ → ℕ → ℕ → State → Reply × State
@@ -93,12 +93,8 @@ openHeld (some q) k flags t s = (refused busy, s)
 
 -- "absence (CB): .. a store name not held (in no used slot) and flags 0x0001"
 abbrev pub openNamed : Option ℕ → List ℕ → ℕ → ℕ → State → Reply × State
-openNamed none n flags t s = cond (eqb flags readOnly) (refused notFound, s) (openNew (freeRowIn s) (freeSlotIn s) n flags t s)
+openNamed none n flags t s = cond (writesWith flags) (openNew (freeRowIn s) (freeSlotIn s) n flags t s) (refused notFound, s)
 openNamed (some k) n flags t s = openHeld (rowOn k s) k flags t s
-
--- "flags (CC): store 0x0001 or 0x0003"
-abbrev pub storeFlags : ℕ → Bool
-storeFlags flags = eqb flags readOnly || eqb flags readWrite
 
 unfoldable pub openStore : List ℕ → ℕ → ℕ → State → Reply × State
 openStore n flags t s = cond (storeFlags flags) (openNamed (slotNamed n s) n flags t s) (refused invalid, s)
@@ -131,10 +127,6 @@ openFlashQuiet (some q) k t s = (refused busy, s)
 abbrev pub openFlashListed : Bool → FlashKind → ℕ → State → Reply × State
 openFlashListed true k t s = openFlashQuiet (first (meant job s) rowCount) k t s
 openFlashListed false k t s = (refused notFound, s)
-
--- "flags (CC): .. flash 0x0002"
-abbrev pub flashFlags : ℕ → Bool
-flashFlags flags = eqb flags writeOnly
 
 unfoldable pub openFlash : FlashKind → ℕ → ℕ → State → Reply × State
 openFlash k flags t s = cond (flashFlags flags) (openFlashListed (flashListed k (s .flashGroup .phase)) k t s) (refused invalid, s)

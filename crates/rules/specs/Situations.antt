@@ -13,7 +13,7 @@ use Rattle.protocol.specs.Numbers.{slotCount, nameSize, slotSize, readWrite, ro
 use Rattle.protocol.specs.Names.{base, alnum, storeName, storeField, kindOf}
 use Rattle.state.specs.State.{State, Row, Slot, slot, inRow, cell, Place, FlashBody, flash, Body, placeOf}
 use Rattle.state.specs.Parts.{FitsSlot, cell-get-put, cell-row-other, cell-body-other, Separate, FitsBody, row-put}
-use Rattle.state.specs.Words.{Live, fresh, idOf, blobOf, ident}
+use Rattle.state.specs.Words.{Live, fresh, idOf, blobOf, ident, store-writes}
 use Rattle.state.specs.Soundness.{slotAt, isSound}
 use Rattle.state.specs.Facts.{StoreSession, Sound, PhaseOk, FlashSession, Session}
 use Rattle.state.specs.Agree.{test-of-sound}
@@ -89,7 +89,7 @@ written-session : (r : ℕ) (name : List ℕ) (n : ℕ) → r < slotCount → n 
 written-session r name n low h good = record {
   id-small = omega arith;
   on-slot = refl;
-  flags = refl;
+  flags = store-writes;
   no-status = refl;
   rest-zero = omega arith;
   is-held = refl;

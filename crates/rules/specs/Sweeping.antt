@@ -17,14 +17,14 @@ use Rattle.protocol.specs.Names.{kindOf, flashNumber}
 use Rattle.protocol.specs.declared.Blob.{Blob}
 use Rattle.state.specs.State.{State, Row, Place, slot, flash, Body, placeOf, inRow, inBody, cell}
 use Rattle.state.specs.Parts.{FitsRow, cell-row-other, row-put}
-use Rattle.state.specs.Words.{blobOf, stampOf, statusOf, blob, inUse, freeRow}
+use Rattle.state.specs.Words.{blobOf, stampOf, statusOf, blob, inUse, freeRow, storeFlags, flashFlags, writesWith}
 use Rattle.state.specs.Soundness.{slotAt}
 use Rattle.rules.specs.Store.{onStore}
 use Rattle.rules.specs.Command.{close}
 use Rattle.rules.specs.Flash.{closeFlash, onFlash}
 use Rattle.rules.specs.Session.{onPart, onRow, meant, job}
 use Rattle.rules.specs.Sweep.{stale, sweepRow, sweepRows, noted, due, swept}
-use Rattle.rules.specs.Open.{flashListed, openBlob, freshId, newRow, opened, newSlot, heldSlot, openNew, openFree, openHeld, openNamed, storeFlags, openStore, openedFlash, openFlashFree, openFlashQuiet, openFlashListed, flashFlags, openFlash, slotNamed, rowOn, freeRowIn, freeSlotIn}
+use Rattle.rules.specs.Open.{flashListed, openBlob, freshId, newRow, opened, newSlot, heldSlot, openNew, openFree, openHeld, openNamed, openStore, openedFlash, openFlashFree, openFlashQuiet, openFlashListed, openFlash, slotNamed, rowOn, freeRowIn, freeSlotIn}
 use Rattle.rules.specs.Laws.{cond-has, other-rows, by-own-part, table-after}
 use Rattle.rules.specs.Searches.{free-row}
 use Rattle.laws.specs.Find.{first}
@@ -161,7 +161,7 @@ module _ (t i : ℕ) (m : List ℕ) (s : State) (size : length (s .sessions .tab
       held k (some q) = as-found
 
       named : (o : Option ℕ) → Fine (openNamed o n flags t s)
-      named none = cond-has Fine (eqb flags readOnly) (refused notFound, s) (openNew (freeRowIn s) (freeSlotIn s) n flags t s) as-found (new (freeRowIn s) (freeSlotIn s) refl)
+      named none = cond-has Fine (writesWith flags) (openNew (freeRowIn s) (freeSlotIn s) n flags t s) (refused notFound, s) (new (freeRowIn s) (freeSlotIn s) refl) as-found
       named (some k) = held k (rowOn k s)
 
   flash-fine : (k : FlashKind) (flags : ℕ) → Fine (openFlash k flags t s)

@@ -29,7 +29,7 @@ pub fn fresh() -> Control
     Control {
         rows: 0,
         slots: 0,
-        committed: 0,
+        marks: 0,
         committed_len: [0; SLOTS],
         staged_len: [0; SLOTS],
         phase: Phase::Idle,

@@ -58,7 +58,7 @@ fn is_sound(words: &[u32], table: &[u32], names: &[u8], committed: &[u8], staged
     let control = Control {
         rows: words[0],
         slots: words[1],
-        committed: words[2],
+        marks: words[2],
         committed_len,
         staged_len,
         phase,

@@ -10,7 +10,6 @@ ghost use Rattle.state.specs.State.{State, Slot, stateOf, withRows};
 ghost use Rattle.state.specs.Entry.{wordsOf};
 ghost use Rattle.state.specs.Soundness.{storeRow, jobFits, flashRow, usedRow, rowOk, rowsApart, writesSlot, hasWriter};
 ghost use Rattle.state.specs.Lent.{TableLent};
-use protocol::Flags;
 use protocol::FlashKind;
 use state::Control;
 use state::Phase;
@@ -21,19 +20,18 @@ use state::Status;
 use state::WORD_LIMIT;
 use state::mask::has;
 use state::row::Entry;
+use state::row::flash_flags;
 use state::row::kind_of;
 use state::row::read_row;
+use state::row::store_flags;
 
 // A store row whose slot is in use or not, committed or not: flags, status and clean mark.
 fn store_row(e: Entry, held: bool, mark: bool) -> bool
     ensures { λ x. ⌜ ((b : Slot) → held ≡ eqb (b .held) 1 → mark ≡ eqb (b .mark) 1 → x ≡ storeRow (e .word) b) ⌝ }
 {
-    let flags = e.flags();
     let clean = e.clean();
     (held & (e.status() == Status::UNTRIED))
-        & ((((flags == Flags::READ.0 as u32) & (clean == 1))
-            | (flags == Flags::READ_WRITE.0 as u32))
-            & ((clean == 0) | mark))
+        & (store_flags(e.flags()) & ((e.writes() | (clean == 1)) & ((clean == 0) | mark)))
 }
 
 // Status and phase of a flash row.
@@ -58,7 +56,7 @@ fn flash_row(e: Entry, phase: Phase) -> bool
     ensures { λ x. ⌜ x ≡ flashRow (e .blob) (e .word) phase ⌝ }
 {
     ((e.blob <= FlashKind::Cleanup.number()) & (e.clean() == 0))
-        & ((e.flags() == Flags::WRITE.0 as u32) & job_fits(kind_of(e.blob), e.status(), phase))
+        & (flash_flags(e.flags()) & job_fits(kind_of(e.blob), e.status(), phase))
 }
 
 // A used row.
@@ -150,7 +148,7 @@ fn writes_slot(rows: u32, table: &[u32], k: u32, r: usize) -> bool
     ensures { λ x. ⌜ ((s : State) → x ≡ writesSlot (withRows rows (now (table .entry)) s) k r) ⌝ }
 {
     let e = read_row(table, r);
-    has(rows, r) & ((e.blob == k) & (e.flags() == Flags::READ_WRITE.0 as u32))
+    has(rows, r) & ((e.blob == k) & e.writes())
 }
 
 // Slot k has a writing row.

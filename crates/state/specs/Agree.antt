@@ -20,8 +20,8 @@ use Rattle.state.specs.declared.Phase.{Phase}
 use Rattle.state.specs.declared.Phase.the-variants.{Idle, Uploading, Verified}
 use Rattle.state.specs.State.{State, Slot, FlashBody, Place, slot, flash, placeOf, inRow, inBody}
 use Rattle.state.specs.Parts.{Separate, InRange, Shape, FitsSlot, row-view-fits, body-view-fits}
-use Rattle.state.specs.Words.{wordOf, flagsIn, statusIn, cleanIn, writingIn, freeSlot, ident, blob, inUse, Live}
-use Rattle.state.specs.Soundness.{slotAt, isIdle, isUploading, isVerified, lentRight, valuesFit, flashFits, storeRow, jobFits, flashRow, usedRow, rowOk, rowsClash, rowsApart, writesSlot, hasWriter, usedSlot, unusedSlot, slotOk, namesApart, isSound}
+use Rattle.state.specs.Words.{wordOf, flagsIn, statusIn, cleanIn, writingIn, writesWith, freeSlot, ident, blob, inUse, Live}
+use Rattle.state.specs.Soundness.{slotAt, isIdle, isUploading, isVerified, lentRight, valuesFit, flashFits, readerClean, cleanCommitted, storeRow, jobFits, flashRow, usedRow, rowOk, rowsClash, rowsApart, writesSlot, hasWriter, usedSlot, unusedSlot, slotOk, namesApart, isSound}
 use Rattle.state.specs.Facts.{StoreSession, StoreIdle, PhaseOk, FlashIdle, FlashSession, Session, Unheld, Sound}
 
 -- ---- phases
@@ -260,16 +260,37 @@ values-of s h =
     and-both _ _ (and-both _ _ (lt-ltb _ _ (h .rows-small)) (lt-ltb _ _ (h .slots-small))) (and-both _ _ (lt-ltb _ _ (h .marks-small)) (lt-ltb _ _ (h .next-small)))
 
 -- ---- the third word of a store row
-store-flags : (w : ℕ) → Or ((eqb (flagsIn w) 1 && eqb (cleanIn w) 1) ≡ true) (eqb (flagsIn w) 3 ≡ true) → (flagsIn w ≡ 1 + 2 * writingIn w) × (1 ≤ cleanIn w + writingIn w)
-store-flags w (this e) = let a = and-true _ _ e in let f : flagsIn w ≡ 1 = eqb-true _ _ (a .0) in let c : cleanIn w ≡ 1 = eqb-true _ _ (a .1) in (omega arith, omega arith)
-store-flags w (that e) = let f : flagsIn w ≡ 3 = eqb-true _ _ e in (omega arith, omega arith)
-
-flags-store : (w : ℕ) → flagsIn w ≡ 1 + 2 * writingIn w → 1 ≤ cleanIn w + writingIn w → (eqb (flagsIn w) 1 && eqb (cleanIn w) 1) || eqb (flagsIn w) 3 ≡ true
-flags-store w f c = go (ℕ-discrete (writingIn w) 0)
+clean-reader : (w : ℕ) → readerClean w ≡ true → 1 ≤ cleanIn w + writingIn w
+unfolding readerClean
+clean-reader w h = go (or-true _ _ h)
   where
-    go : Dec (writingIn w ≡ 0) → (eqb (flagsIn w) 1 && eqb (cleanIn w) 1) || eqb (flagsIn w) 3 ≡ true
-    go (yes e) = or-left (eqb (flagsIn w) 1 && eqb (cleanIn w) 1) (eqb (flagsIn w) 3) (and-both (eqb (flagsIn w) 1) (eqb (cleanIn w) 1) (eq-eqb (flagsIn w) 1 (omega arith)) (eq-eqb (cleanIn w) 1 (omega arith)))
-    go (no n) = or-right (eqb (flagsIn w) 1 && eqb (cleanIn w) 1) (eqb (flagsIn w) 3) (eq-eqb (flagsIn w) 3 (omega arith))
+    go : Or (writesWith (flagsIn w) ≡ true) (eqb (cleanIn w) 1 ≡ true) → 1 ≤ cleanIn w + writingIn w
+    go (this e) = let z = eqb-true (writingIn w) 1 e in omega arith
+    go (that e) = let z = eqb-true (cleanIn w) 1 e in omega arith
+
+reader-clean-is : (w : ℕ) → 1 ≤ cleanIn w + writingIn w → readerClean w ≡ true
+unfolding readerClean
+reader-clean-is w h = go (ℕ-discrete (writingIn w) 1)
+  where
+    go : Dec (writingIn w ≡ 1) → writesWith (flagsIn w) || eqb (cleanIn w) 1 ≡ true
+    go (yes e) = or-left (writesWith (flagsIn w)) (eqb (cleanIn w) 1) (eq-eqb (writingIn w) 1 e)
+    go (no n) = or-right (writesWith (flagsIn w)) (eqb (cleanIn w) 1) (eq-eqb (cleanIn w) 1 (omega arith))
+
+clean-marked-is : (w : ℕ) (b : Slot) → cleanCommitted w b ≡ true → cleanIn w ≤ b .mark
+unfolding cleanCommitted
+clean-marked-is w b h = go (or-true _ _ h)
+  where
+    go : Or (eqb (cleanIn w) 0 ≡ true) (eqb (b .mark) 1 ≡ true) → cleanIn w ≤ b .mark
+    go (this e) = let z = eqb-true (cleanIn w) 0 e in omega arith
+    go (that e) = let z = eqb-true (b .mark) 1 e in omega arith
+
+marked-clean-is : (w : ℕ) (b : Slot) → cleanIn w ≤ b .mark → b .mark < 2 → cleanCommitted w b ≡ true
+unfolding cleanCommitted
+marked-clean-is w b c m = go (ℕ-discrete (cleanIn w) 0)
+  where
+    go : Dec (cleanIn w ≡ 0) → eqb (cleanIn w) 0 || eqb (b .mark) 1 ≡ true
+    go (yes e) = or-left (eqb (cleanIn w) 0) (eqb (b .mark) 1) (eq-eqb (cleanIn w) 0 e)
+    go (no n) = or-right (eqb (cleanIn w) 0) (eqb (b .mark) 1) (eq-eqb (b .mark) 1 (omega arith))
 
 -- ---- writers
 writer-row : (s : State) (k : ℕ) → hasWriter s k ≡ true → (r : ℕ) × (r < rowCount) × (writesSlot s k r ≡ true)
@@ -283,16 +304,16 @@ row-writer s k r l h = ap not (all-fails (λ (i : ℕ). not (writesSlot s k i)) 
 pub record Writer (s : State) (k r : ℕ) : Type 0 where
   pub writer-live : Live r s
   pub writer-blob : blob r s ≡ k
-  pub writer-flags : flagsIn (wordOf (inRow r .get s)) ≡ 3
+  pub writer-writes : writingIn (wordOf (inRow r .get s)) ≡ 1
 
 writer-facts : (s : State) (k r : ℕ) → r < rowCount → writesSlot s k r ≡ true → Writer s k r
 unfolding writesSlot
 writer-facts s k r l h =
     let a = and-true _ _ h in
     let b = and-true _ _ (a .1) in
-    record { writer-live = (l, eqb-true _ _ (a .0)); writer-blob = eqb-true _ _ (b .0); writer-flags = eqb-true _ _ (b .1) }
+    record { writer-live = (l, eqb-true _ _ (a .0)); writer-blob = eqb-true _ _ (b .0); writer-writes = eqb-true _ _ (b .1) }
 
-facts-writer : (s : State) (k r : ℕ) → Live r s → blob r s ≡ k → flagsIn (wordOf (inRow r .get s)) ≡ 3 → hasWriter s k ≡ true
+facts-writer : (s : State) (k r : ℕ) → Live r s → blob r s ≡ k → writingIn (wordOf (inRow r .get s)) ≡ 1 → hasWriter s k ≡ true
 unfolding writesSlot
 facts-writer s k r l b f = row-writer s k r (l .0) (and-both _ _ (eq-eqb _ _ (l .1)) (and-both _ _ (eq-eqb _ _ b) (eq-eqb _ _ f)))
 
@@ -404,29 +425,25 @@ module _ (s : State) (p : Parts s) where
       let b = and-true _ _ (a .0) in
       let c = and-true _ _ (a .1) in
       let held : slotAt (blob r s) s .held ≡ 1 = eqb-true _ _ (b .0) in
-      let f = store-flags (wordOf (inRow r .get s)) (or-true _ _ (c .0)) in
+      let d = and-true _ _ (c .1) in
       let k = held-slot (blob r s) low held in
       record {
         id-small = i;
         on-slot = refl;
-        flags = f .0;
+        flags = c .0;
         no-status = eqb-true _ _ (b .1);
         rest-zero = w;
         is-held = held;
         mark-bit = bit-lt (blob r s) (s .store .marks);
         committed-fits = k .committed-small;
         staged-fits = k .staged-small;
-        clean-marked = cl (or-true _ _ (c .1));
-        reader-clean = f .1;
+        clean-marked = clean-marked-is (wordOf (inRow r .get s)) (slotAt (blob r s) s) (d .1);
+        reader-clean = clean-reader (wordOf (inRow r .get s)) (d .0);
         unmarked = λ (z : slotAt (blob r s) s .mark ≡ 0). um z (k .marked);
         unstaged = λ (z : writingIn (wordOf (inRow r .get s)) ≡ 0). us z (k .staged-or);
         name-good = k .named;
       }
     where
-      cl : Or (eqb (cleanIn (wordOf (inRow r .get s))) 0 ≡ true) (eqb (slotAt (blob r s) s .mark) 1 ≡ true) → cleanIn (wordOf (inRow r .get s)) ≤ slotAt (blob r s) s .mark
-      cl (this e) = let z = eqb-true (cleanIn (wordOf (inRow r .get s))) 0 e in omega arith
-      cl (that e) = let z = eqb-true (slotAt (blob r s) s .mark) 1 e in omega arith
-
       um : slotAt (blob r s) s .mark ≡ 0 → Or (slotAt (blob r s) s .mark ≡ 1) ((slotAt (blob r s) s .committedLen ≡ 0) × (hasWriter s (blob r s) ≡ true)) → slotAt (blob r s) s .committedLen ≡ 0
       um z (this e) = absurd (omega arith)
       um z (that e) = e .0
@@ -439,7 +456,7 @@ module _ (s : State) (p : Parts s) where
           clash (q .0) v (ℕ-discrete (q .0) r))
         where
           clash : (x : ℕ) → Writer s (blob r s) x → Dec (x ≡ r) → ⊥
-          clash x v (yes g) = let w : flagsIn (wordOf (inRow r .get s)) ≡ 3 = subst (λ (y : ℕ). flagsIn (wordOf (inRow y .get s)) ≡ 3) g (v .writer-flags) in omega arith
+          clash x v (yes g) = let w : writingIn (wordOf (inRow r .get s)) ≡ 1 = subst (λ (y : ℕ). writingIn (wordOf (inRow y .get s)) ≡ 1) g (v .writer-writes) in omega arith
           clash x v (no g) = distinct x r (v .writer-live) live g .blobs-differ (v .writer-blob)
 
   on-flash : (r : ℕ) → Live r s → slotCount ≤ blob r s → ident r s < sixteenBits → wordOf (inRow r .get s) < wordLimit
@@ -567,13 +584,7 @@ module _ (s : State) (snd : Sound s) where
   unfolding storeRow
   store-row r k f =
       and-both _ _ (and-both _ _ (eq-eqb (slotAt k s .held) 1 (f .is-held)) (eq-eqb (statusIn (wordOf (inRow r .get s))) 0 (f .no-status)))
-      (and-both _ _ (flags-store (wordOf (inRow r .get s)) (f .flags) (f .reader-clean)) (go (ℕ-discrete (cleanIn (wordOf (inRow r .get s))) 0)))
-    where
-      go : Dec (cleanIn (wordOf (inRow r .get s)) ≡ 0) → eqb (cleanIn (wordOf (inRow r .get s))) 0 || eqb (slotAt k s .mark) 1 ≡ true
-      go (yes e) = or-left (eqb (cleanIn (wordOf (inRow r .get s))) 0) (eqb (slotAt k s .mark) 1) (eq-eqb (cleanIn (wordOf (inRow r .get s))) 0 e)
-      go (no n) =
-          let c = f .clean-marked in let m = f .mark-bit in
-          or-right (eqb (cleanIn (wordOf (inRow r .get s))) 0) (eqb (slotAt k s .mark) 1) (eq-eqb (slotAt k s .mark) 1 (omega arith))
+      (and-both _ _ (f .flags) (and-both _ _ (reader-clean-is (wordOf (inRow r .get s)) (f .reader-clean)) (marked-clean-is (wordOf (inRow r .get s)) (slotAt k s) (f .clean-marked) (f .mark-bit))))
 
   flash-row : (r : ℕ) → FlashSession (inRow r .get s) (s .flashGroup) → flashRow (blob r s) (wordOf (inRow r .get s)) (s .flashGroup .phase) ≡ true
   unfolding flashRow
@@ -639,7 +650,7 @@ module _ (s : State) (snd : Sound s) where
           f = subst (λ (p : Place). Session p (inRow (h .row) .get s) (inBody p .get s)) (h .there) (snd .session (h .row) (h .live))
 
           writer : writingIn w ≢ 0 → hasWriter s k ≡ true
-          writer n = facts-writer s k (h .row) (h .live) (f .on-slot) (let e = f .flags in omega arith)
+          writer n = facts-writer s k (h .row) (h .live) (f .on-slot) (omega arith)
 
           mark : Dec (slotAt k s .mark ≡ 1) → eqb (slotAt k s .mark) 1 || (eqb (slotAt k s .committedLen) 0 && hasWriter s k) ≡ true
           mark (yes e) = or-left (eqb (slotAt k s .mark) 1) (eqb (slotAt k s .committedLen) 0 && hasWriter s k) (eq-eqb (slotAt k s .mark) 1 e)

@@ -12,14 +12,14 @@ use Rattle.state.specs.declared.Phase.{Phase}
 use Rattle.state.specs.declared.Phase.the-variants.{Idle, Uploading, Verified}
 use Rattle.state.specs.State.{State, Row, Slot, FlashBody, Place, slot, flash, Body, placeOf, inRow, inBody}
 use Rattle.state.specs.Parts.{Separate, InRange, Shape}
-use Rattle.state.specs.Words.{idOf, blobOf, wordOf, flagsIn, statusIn, cleanIn, writingIn, freeSlot, ident, blob, Live}
+use Rattle.state.specs.Words.{idOf, blobOf, wordOf, flagsIn, statusIn, cleanIn, writingIn, storeFlags, freeSlot, ident, blob, Live}
 use Rattle.state.specs.Soundness.{slotAt}
 
 -- of the words id, bl, w of a row that is open on slot k, and of the slot b
 pub record StoreFacts (k id bl w : ℕ) (b : Slot) : Type 0 where
   pub id-small : id < sixteenBits
   pub on-slot : bl ≡ k
-  pub flags : flagsIn w ≡ 1 + 2 * writingIn w
+  pub flags : storeFlags (flagsIn w) ≡ true
   pub no-status : statusIn w ≡ 0
   pub rest-zero : w < wordLimit
   pub is-held : b .held ≡ 1

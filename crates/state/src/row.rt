@@ -5,7 +5,7 @@ ghost use lib.Dec.{eqb};
 ghost use Rattle.laws.specs.Ranges.{block};
 ghost use Rattle.protocol.specs.Names.{kindOf};
 ghost use Rattle.protocol.specs.Numbers.{rowCount, rowWords, statusUnit};
-ghost use Rattle.state.specs.Words.{flagsIn, statusIn, cleanIn, writingIn, wordWith, freeRow};
+ghost use Rattle.state.specs.Words.{flagsIn, statusIn, cleanIn, writingIn, writesWith, storeFlags, flashFlags, wordWith, freeRow};
 ghost use Rattle.state.specs.Entry.{wordsOf, lifted, statusSet, cleanSet};
 ghost use Rattle.state.specs.Lent.{TableLent};
 use crate::CLEAN_UNIT;
@@ -50,11 +50,11 @@ impl Entry {
         self.word / CLEAN_UNIT % 2
     }
 
-    // WRITE is among the flags.
+    // The session writes.
     pub fn writes(self) -> bool
         ensures { λ x. ⌜ x ≡ eqb (writingIn (self .word)) 1 ⌝ }
     {
-        self.flags() / Flags::WRITE.0 as u32 % 2 == 1
+        writes_with(self.flags())
     }
 
     // The stamp lifted to the clock if that is later.
@@ -94,6 +94,27 @@ impl Entry {
             stamp: self.stamp,
         }
     }
+}
+
+// A session with these flags writes: WRITE is among them.
+pub fn writes_with(flags: u32) -> bool
+    ensures { λ x. ⌜ x ≡ writesWith flags ⌝ }
+{
+    flags / Flags::WRITE.0 as u32 % 2 == 1
+}
+
+// The flags that a store name allows.
+pub fn store_flags(flags: u32) -> bool
+    ensures { λ x. ⌜ x ≡ storeFlags flags ⌝ }
+{
+    (flags == Flags::READ.0 as u32) | (flags == Flags::READ_WRITE.0 as u32)
+}
+
+// The flags that a flash name allows.
+pub fn flash_flags(flags: u32) -> bool
+    ensures { λ x. ⌜ x ≡ flashFlags flags ⌝ }
+{
+    flags == Flags::WRITE.0 as u32
 }
 
 // The third word with these flags, this job status and this clean mark.

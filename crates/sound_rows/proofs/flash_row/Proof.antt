@@ -13,8 +13,8 @@ clean-requires c κs = search needs
 flags-requires : tie.Need-flags-requires
 flags-requires c κs = search needs
 
-cast-result : tie.Need-cast-result
-cast-result c = search needs
+flash-flags-requires : tie.Need-flash-flags-requires
+flash-flags-requires c κs = search needs
 
 kind-of-requires : tie.Need-kind-of-requires
 kind-of-requires c κs = search needs
@@ -36,7 +36,7 @@ flash-row-spec =
     number-requires
     clean-requires
     flags-requires
-    cast-result
+    flash-flags-requires
     kind-of-requires
     status-requires
     job-fits-requires

@@ -10,16 +10,13 @@ read-row-requires c κs = search needs
 has-requires : tie.Need-has-requires
 has-requires c κs = search needs
 
-flags-requires : tie.Need-flags-requires
-flags-requires c κs = search needs
-
-cast-result : tie.Need-cast-result
-cast-result c = search needs
+writes-requires : tie.Need-writes-requires
+writes-requires c κs = search needs
 
 returns : tie.Need-returns
 unfolding writesSlot
-returns c = λ s. rw (c .before .before .before .before .read-row .ensures, c .before .before .before .has .ensures, c .before .flags .ensures)
+returns c = λ s. rw (c .before .before .before .read-row .ensures, c .before .before .has .ensures, c .writes .ensures)
 
 pub writes-slot-spec : {M : Type 1} → statement M
 writes-slot-spec =
-    tie.close (tie.spec read-row-requires has-requires flags-requires cast-result returns)
+    tie.close (tie.spec read-row-requires has-requires writes-requires returns)
