@@ -1,6 +1,5 @@
--- What a message asks, by document 01's order of the checks that need no state: message length (C7), OEM number (CC), subcommand (C1),
--- body length (C7), CRC (CC); then, of a command that has a name, name form (CC).
-use mathlib.Core.Bool.{Bool, cond, _&&_, _||_}
+-- What a message asks: the checks that need no state, in their order, and the fields of each subcommand (sections 1 and 3, rule 7.13).
+use mathlib.Core.Bool.{Bool, false, cond, _&&_, _||_}
 use mathlib.Core.List.{List, [], _∷_}
 use Prim.Native.Nat.{ℕ, _+_, _-_}
 use lib.Dec.{eqb, leb}
@@ -14,7 +13,7 @@ use Rattle.protocol.specs.declared.Request.{Request}
 use Rattle.protocol.specs.declared.Request.the-variants.{Count, Enumerate, Open, Read, Write, Commit, Close, Delete, Stat, SessionStat, WriteMeta, Refused}
 
 -- ---- the cases of a request
--- the subcommand of each case, and the completion code of a refusal
+-- the number of each case: its subcommand (rule 1.4), or the completion code of a refusal
 abbrev pub numberOf : Request → ℕ
 numberOf Count = countCommand
 numberOf (Enumerate index) = enumerateCommand
@@ -29,7 +28,7 @@ numberOf (SessionStat session) = sessionStatCommand
 numberOf (WriteMeta session) = writeMetaCommand
 numberOf (Refused code) = code .0
 
--- the numbers that each case has from the message's fields, in their order
+-- the numbers that each case has from the message's fields, in their order (rule 3.3)
 abbrev pub valuesOf : Request → List ℕ
 valuesOf Count = []
 valuesOf (Enumerate index) = index ∷ []
@@ -49,15 +48,15 @@ abbrev pub refusedWith : ℕ → Request
 refusedWith code = Refused (record { 0 = code })
 
 -- ---- the parts of a message
--- the subcommand, in the byte after the OEM number
+-- the subcommand, behind the OEM number (rule 1.4)
 abbrev pub subcommand : List ℕ → ℕ
 subcommand m = getD m 3 0
 
--- the bytes after the 4 of the header, CRC included
+-- how long the body is, its CRC counted (rule 1.5)
 abbrev pub bodyLength : List ℕ → ℕ
 bodyLength m = length m - headerSize
 
--- where the fields start, behind the CRC
+-- where the fields start, behind header and CRC (rule 1.5)
 abbrev pub fieldsAt : ℕ
 fieldsAt = headerSize + crcSize
 
@@ -65,8 +64,8 @@ abbrev pub fields : List ℕ → List ℕ
 fields m = drop fieldsAt m
 
 -- ---- the checks
--- "Lengths after the 4 bytes, CRC included", of each subcommand
-unfoldable pub bodyFits : ℕ → ℕ → Bool
+-- how long the body of each subcommand is (rule 3.1)
+unfoldable pub bodyFits : (sub length : ℕ) → Bool
 bodyFits sub n =
     cond (eqb sub countCommand) (eqb n 0)
     (cond (eqb sub enumerateCommand) (eqb n 6)
@@ -77,22 +76,23 @@ bodyFits sub n =
     (cond (eqb sub closeCommand) (eqb n 4)
     (cond (eqb sub deleteCommand) (leb 3 n)
     (cond (eqb sub statCommand) (leb 3 n)
-    (cond (eqb sub sessionStatCommand) (eqb n 4) (leb 8 n))))))))))
+    (cond (eqb sub sessionStatCommand) (eqb n 4)
+    (cond (eqb sub writeMetaCommand) (leb 8 n) false))))))))))
 
--- "if the body isn't empty, a CRC of two bytes over all that follows it"
+-- a body that is not empty begins with the CRC of its fields (rule 1.5)
 unfoldable pub crcFits : List ℕ → Bool
 crcFits m = eqb (bodyLength m) 0 || eqb (little crcSize headerSize m) (crc (fields m))
 
--- a name that starts at `at` and fills the rest of its body: its request, or CC by its form
-unfoldable pub withName : ℕ → List ℕ → (Blob → Request) → Request
+-- the request with the name that starts at `at` and takes the rest of the body, or CC for a wrong form (rule 4.1)
+unfoldable pub withName : (at : ℕ) → List ℕ → (Blob → Request) → Request
 withName at m f = cond (nameForm (drop at m)) (f (blobNamed at (text (drop at m)))) (refusedWith invalid)
 
--- the session comes first in the fields of all that name one
+-- the session, first of the fields (rule 3.4)
 abbrev pub sessionIn : List ℕ → ℕ
 sessionIn m = little 2 fieldsAt m
 
--- the fields of each subcommand
-unfoldable pub asked : ℕ → List ℕ → Request
+-- the fields of each subcommand, little-endian and without gaps (rules 1.1 and 3.3)
+unfoldable pub asked : (sub : ℕ) → List ℕ → Request
 asked sub m =
     cond (eqb sub countCommand) Count
     (cond (eqb sub enumerateCommand) (Enumerate (little 4 fieldsAt m))
@@ -103,9 +103,10 @@ asked sub m =
     (cond (eqb sub closeCommand) (Close (sessionIn m))
     (cond (eqb sub deleteCommand) (withName fieldsAt m (λ (b : Blob). Delete b))
     (cond (eqb sub statCommand) (withName fieldsAt m (λ (b : Blob). Stat b))
-    (cond (eqb sub sessionStatCommand) (SessionStat (sessionIn m)) (WriteMeta (sessionIn m)))))))))))
+    (cond (eqb sub sessionStatCommand) (SessionStat (sessionIn m))
+    (cond (eqb sub writeMetaCommand) (WriteMeta (sessionIn m)) (refusedWith unknownCommand)))))))))))
 
--- "Order: .. message length; OEM number; subcommand; body length; CRC; then each command's own order"
+-- THE ORDER OF THE CHECKS that need no state: message length, OEM number, subcommand, body length, CRC (rule 7.13); then what the fields ask
 unfoldable pub decoded : List ℕ → Request
 decoded m =
     cond (leb headerSize (length m) && leb (length m) messageSize)

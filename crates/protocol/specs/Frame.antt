@@ -1,4 +1,4 @@
--- A response: header, then, if there are fields, their CRC and the fields.
+-- A response, and what the answer buffer holds after it (rule 1.6, section 19).
 use mathlib.Core.List.{List, [], _∷_, _++_}
 use Prim.Native.Nat.{ℕ}
 use lib.ListN.{length, drop}
@@ -6,7 +6,7 @@ use Rattle.laws.specs.Bytes.{bytesOf}
 use Rattle.crc.specs.Crc.{crc}
 use Rattle.protocol.specs.Numbers.{oem, crcSize, success}
 
--- what a command answers: it is refused, or succeeds without fields, or with these
+-- what a command replies: a refusal with its code, a success without fields, or a success with these
 pub data Reply : Type 0 where
   refused : ℕ → Reply
   done : Reply
@@ -16,17 +16,17 @@ pub data Reply : Type 0 where
 abbrev pub Answer : Type 0
 Answer = ℕ × List ℕ
 
--- "OEM number .., subcommand"
+-- OEM number and subcommand (rules 1.3 and 1.6)
 abbrev pub header : ℕ → List ℕ
 header sub = oem ++ (sub ∷ [])
 
--- "A refusal leaves the answer buffer"; "A success without fields is those 4 bytes. Read always sends its CRC."
+-- a refusal has no response (rule 19.3); a success without fields is the header alone (rule 1.6), and fields have their CRC in front, even where there are none (rule 1.7)
 unfoldable pub framed : ℕ → Reply → Answer
 framed sub (refused code) = (code, [])
 framed sub done = (success, header sub)
 framed sub (reply f) = (success, header sub ++ (bytesOf crcSize (crc f) ++ f))
 
--- "A success writes the response at the front of the answer buffer and keeps the bytes behind it." (An empty response leaves all as it was.)
+-- the answer buffer with the response at its front (rule 19.2); an empty response leaves all of it
 abbrev pub laid : List ℕ → List ℕ → List ℕ
 laid r a = r ++ drop (length r) a
 
@@ -34,6 +34,6 @@ laid r a = r ++ drop (length r) a
 abbrev pub answerAfter : ℕ → Reply → List ℕ → List ℕ
 answerAfter sub r a = laid (framed sub r .1) a
 
--- "State, size, metadata length 0."
-unfoldable pub statFields : ℕ → ℕ → List ℕ
+-- the fields of Stat and SessionStat: state, size, no metadata (rule 15.3)
+unfoldable pub statFields : (state size : ℕ) → List ℕ
 statFields state size = bytesOf 2 state ++ (bytesOf 4 size ++ (0 ∷ []))

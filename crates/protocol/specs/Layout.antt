@@ -7,7 +7,7 @@ use native.Mathlib.Omega.{arith}
 use lib.Dec.{eqb}
 use lib.ListN.{getD, drop}
 use Rattle.laws.specs.Bytes.{little, text}
-use Rattle.protocol.specs.Numbers.{countCommand, enumerateCommand, openCommand, readCommand, writeCommand, commitCommand, deleteCommand, statCommand, writeMetaCommand}
+use Rattle.protocol.specs.Numbers.{countCommand, enumerateCommand, openCommand, readCommand, writeCommand, commitCommand, deleteCommand, statCommand, writeMetaCommand, closeCommand, sessionStatCommand}
 use Rattle.protocol.specs.Names.{blobNamed}
 use Rattle.protocol.specs.Decode.{numberOf, valuesOf, subcommand, fieldsAt, sessionIn, withName, asked, decoded}
 use Rattle.protocol.specs.Cases.{Each, each-command, named-case, decoded-case}
@@ -15,16 +15,20 @@ use Rattle.protocol.specs.declared.Blob.{Blob}
 use Rattle.protocol.specs.declared.Request.{Request}
 use Rattle.protocol.specs.declared.Request.the-variants.{Open, Delete, Stat}
 
--- how many bytes each number of a subcommand's fields has, a name or a Write's bytes left out
+-- how many bytes each number among a subcommand's fields has; names and data are no numbers (rule 3.3)
 unfoldable pub layout : ℕ → List ℕ
 layout sub =
     cond (eqb sub countCommand) []
     (cond (eqb sub enumerateCommand) (4 ∷ [])
+    (cond (eqb sub openCommand) (2 ∷ [])
     (cond (eqb sub readCommand) (2 ∷ 4 ∷ 4 ∷ [])
     (cond (eqb sub writeCommand) (2 ∷ 4 ∷ [])
     (cond (eqb sub commitCommand) (2 ∷ 1 ∷ [])
+    (cond (eqb sub closeCommand) (2 ∷ [])
     (cond (eqb sub deleteCommand) []
-    (cond (eqb sub statCommand) [] (2 ∷ [])))))))
+    (cond (eqb sub statCommand) []
+    (cond (eqb sub sessionStatCommand) (2 ∷ [])
+    (cond (eqb sub writeMetaCommand) (2 ∷ []) []))))))))))
 
 -- numbers of these widths, one behind the other, from the place at on
 unfoldable pub numbersAt : List ℕ → ℕ → List ℕ → List ℕ

@@ -1,73 +1,74 @@
--- The numbers of document 01, each once, under its name. Those that measure memory are shut, so that no list of such a length is ever written out.
+-- Every number of the protocol, once, under its name. Those that measure memory are shut, so that no list of such a length is ever written out.
 use mathlib.Core.List.{List, [], _∷_}
 use Prim.Native.Nat.{ℕ}
 
--- ---- Completion codes
+-- ---- Completion codes (section 7)
+-- the request is done (rule 7.1)
 abbrev pub success : ℕ
 success = 0x00
 
--- state not sound
+-- the state is not sound (rule 7.2)
 abbrev pub notSound : ℕ
 notSound = 0xFF
 
--- message under 4 or over 64, or body length wrong
+-- too few bytes or too many, of the message or of its body (rule 7.3)
 abbrev pub wrongLength : ℕ
 wrongLength = 0xC7
 
--- OEM number, CRC, name form, flags or commit length wrong
+-- a field that no request may have: OEM number, CRC, form of the name, flags, Commit's length byte (rule 7.4)
 abbrev pub invalid : ℕ
 invalid = 0xCC
 
--- subcommand over 10
+-- a subcommand that there is not (rule 7.5)
 abbrev pub unknownCommand : ℕ
 unknownCommand = 0xC1
 
--- no such blob or session
+-- the blob or the session does not exist (rule 7.6)
 abbrev pub notFound : ℕ
 notFound = 0xCB
 
--- Enumerate index not below the count, or Write offset above the length
+-- an index or an offset past the end (rule 7.7)
 abbrev pub outOfRange : ℕ
 outOfRange = 0xC9
 
--- Write end above the capacity
+-- more than the region holds (rule 7.8)
 abbrev pub tooLong : ℕ
 tooLong = 0xC8
 
--- no free row, or no free slot
+-- every row or every slot is used (rule 7.9)
 abbrev pub noRoom : ℕ
 noRoom = 0xC4
 
--- blob or flash busy, or job running
+-- someone else is at it: a session, or a job (rule 7.10)
 abbrev pub busy : ℕ
 busy = 0xC0
 
--- not supported by this blob or session, or an outcome without a running job
+-- this blob or session does not do that, or no job runs (rule 7.11)
 abbrev pub notSupported : ℕ
 notSupported = 0xD5
 
--- ---- Message frame
--- OEM number 49871, little-endian
+-- ---- Message frame (section 1)
+-- the OEM number 49871, lowest byte first (rule 1.3)
 abbrev pub oem : List ℕ
 oem = 0xCF ∷ 0xC2 ∷ 0x00 ∷ []
 
--- OEM number and subcommand
+-- OEM number and subcommand, the least that a message has (rule 1.2)
 abbrev pub headerSize : ℕ
 headerSize = 4
 
--- a CRC of two bytes
+-- the CRC's bytes (rule 1.5)
 abbrev pub crcSize : ℕ
 crcSize = 2
 
--- "A message is at most 64 bytes"
+-- the most that a message has (rule 1.2)
 abbrev pub messageSize : ℕ
 messageSize = 64
 
--- "a Read answer at most 58"
+-- the most that a Read sends (rule 3.2)
 abbrev pub readMost : ℕ
 readMost = 58
 
--- ---- Subcommands
+-- ---- Subcommands (rule 1.4)
 abbrev pub countCommand : ℕ
 countCommand = 0
 
@@ -101,31 +102,31 @@ sessionStatCommand = 9
 abbrev pub writeMetaCommand : ℕ
 writeMetaCommand = 10
 
--- ---- Names: 1 to 31 characters, then the only NUL
+-- ---- Names (section 4)
+-- characters of a name, its NUL not counted (rule 4.1)
 abbrev pub nameMost : ℕ
 nameMost = 31
 
--- `/scan/` and 1 to 25 letters or digits
+-- letters and digits behind `/scan/` (rule 4.3)
 abbrev pub storeNameMost : ℕ
 storeNameMost = 25
 
--- ---- Memory lent
--- rows of the session table, and slots of the store
+-- ---- Memory (section 5)
+-- rows of the session table, and slots of the store (rule 5.1)
 abbrev pub rowCount : ℕ
 rowCount = 16
 
 abbrev pub slotCount : ℕ
 slotCount = 16
 
--- words of a row
+-- words of a row (rule 5.4)
 abbrev pub rowWords : ℕ
 rowWords = 4
 
--- names 16 × 32
+-- bytes of a slot's name, of each of its regions, of the image, the hash and the answer buffer (rule 5.1)
 unfoldable pub nameSize : ℕ
 nameSize = 32
 
--- committed and staged 16 × 4,096
 unfoldable pub slotSize : ℕ
 slotSize = 4096
 
@@ -135,15 +136,14 @@ imageSize = 16384
 unfoldable pub hashSize : ℕ
 hashSize = 64
 
--- answer 64
 abbrev pub answerSize : ℕ
 answerSize = 64
 
--- masks and next identifier are below 65,536; identifiers are up to 65,535
+-- what a mask, an identifier and the next identifier are below (rules 6.2 and 6.5)
 abbrev pub sixteenBits : ℕ
-sixteenBits = 65536
+sixteenBits = 0x10000
 
--- ---- Blobs 0-15 are store slots, 16-20 the flash names in their order
+-- ---- Blob numbers of the flash names, above those of the slots (rule 5.8)
 abbrev pub imageBlob : ℕ
 imageBlob = 16
 
@@ -159,7 +159,8 @@ updateBlob = 19
 abbrev pub cleanupBlob : ℕ
 cleanupBlob = 20
 
--- ---- A row's third word: flags in bits 0-15, job status in 16-17, clean in 18
+-- ---- A row's third word (rule 5.5)
+-- the flags that a session may have (rule 5.7)
 abbrev pub readOnly : ℕ
 readOnly = 0x0001
 
@@ -169,16 +170,19 @@ readWrite = 0x0003
 abbrev pub writeOnly : ℕ
 writeOnly = 0x0002
 
+-- bit 16, where the job status begins
 abbrev pub statusUnit : ℕ
-statusUnit = 65536
+statusUnit = 0x10000
 
+-- bit 18, clean
 abbrev pub cleanUnit : ℕ
-cleanUnit = 262144
+cleanUnit = 0x40000
 
+-- the bits from here on are zero (rule 6.5)
 abbrev pub wordLimit : ℕ
-wordLimit = 524288
+wordLimit = 0x80000
 
--- job status: 0 untried, 1 running, 2 succeeded, 3 failed
+-- the job status (rule 5.6)
 abbrev pub untried : ℕ
 untried = 0
 
@@ -191,16 +195,16 @@ succeeded = 2
 abbrev pub failed : ℕ
 failed = 3
 
--- ---- Sweep
--- due when clock ≥ last sweep + 60
+-- ---- Sweep (section 18)
+-- seconds from one sweep to the next (rule 18.3)
 abbrev pub sweepEvery : ℕ
 sweepEvery = 60
 
--- each session with clock > stamp + 600
+-- seconds that a session lives without a request (rule 18.4)
 abbrev pub sessionLife : ℕ
 sessionLife = 600
 
--- ---- Blob state: "Bits 0 and 1 are the session's flags; 2, 3, 4 are status 1, 2, 3; bit 3 is also clean"
+-- ---- The bits of a blob's state (rule 15.4)
 abbrev pub stateOpenRead : ℕ
 stateOpenRead = 1
 
