@@ -3,7 +3,7 @@ use mathlib.Core.Path.{_≡_, refl, ap}
 use mathlib.Core.Bool.{Bool, true, false, cond}
 use mathlib.Core.Option.{Option, none, some}
 use mathlib.Core.List.{List, [], _∷_, _++_}
-use Prim.Native.Nat.{ℕ, zero, suc, _+_, _-_, _≤_}
+use Prim.Native.Nat.{ℕ, zero, suc, _+_, _≤_}
 use native.Mathlib.Omega.{arith}
 use lib.Dec.{eqb, ltb}
 use lib.ListN.{length, getD, length-append, length-take}
@@ -11,7 +11,7 @@ use Rattle.laws.specs.Find.{first}
 use Rattle.laws.specs.Bytes.{bytesOf, text}
 use Rattle.laws.specs.Ranges.{part}
 use Rattle.crc.specs.Crc.{crc}
-use Rattle.protocol.specs.Numbers.{readMost, stateCommitted, notFound, invalid, outOfRange, rowCount, slotCount, nameSize, answerSize, slotSize, imageSize, hashSize, readOnly, writeOnly, running}
+use Rattle.protocol.specs.Numbers.{readMost, stateCommitted, notFound, invalid, outOfRange, rowCount, slotCount, nameSize, answerSize, slotSize, imageSize, hashSize, writeOnly, running}
 use Rattle.protocol.specs.Names.{base, flashFolder, flashWord, flashName, kindOf, flashNumber}
 use Rattle.protocol.specs.Decode.{decoded, numberOf}
 use Rattle.protocol.specs.Frame.{Reply, refused, done, reply, framed, statFields}
@@ -30,7 +30,8 @@ use Rattle.rules.specs.Command.{Command, read, write, commit, stat, close, writ
 use Rattle.rules.specs.Flash.{writeFlash, startable, verifyJob, updateJob, commitKind, commitFlash, closeFlash, jobEnds, onFlash, flashLength}
 use Rattle.rules.specs.Session.{onPart, Address, by, job, meant, onFound, onSession, statPart, statRow}
 use Rattle.rules.specs.Sweep.{swept}
-use Rattle.rules.specs.Open.{slotNamed, rowOn, freeRowIn, freeSlotIn, opened, openNew, openFree, openHeld, openNamed, openStore, flashListed, openFlashFree, openFlashQuiet, openFlashListed, openFlash, openBlob, deleteQuiet, deleteNamed, deleteBlob, statSlot, statNamed, statKind, statBlob}
+use Rattle.rules.specs.Open.{slotNamed, rowOn, freeRowIn, freeSlotIn, opened, openNew, openFree, openHeld, openNamed, openStore, flashListed, openFlashFree, openFlashQuiet, openFlashListed, openFlash, openBlob, deleteQuiet, deleteNamed}
+use Rattle.rules.specs.Open.{deleteBlob, statSlot, statNamed, statKind, statBlob}
 use Rattle.rules.specs.Listing.{only, listedFlash, committedNames, flashNames, listed, enumerated, count}
 use Rattle.rules.specs.Respond.{Effect, effectOf, unsound, answered, respond}
 use Rattle.guarantees.specs.Naming.{name-bound}

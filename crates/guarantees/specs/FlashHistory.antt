@@ -167,13 +167,18 @@ on s y z e es f g h = ap (λ (x : State). run x es) (f h) ∙ g (ap isSound (sym
 
 runs : run fresh history ≡ updateOpen
 runs =
-    on fresh imageOpen updateOpen openImage (closeImage ∷ openVerify ∷ commitVerify ∷ goodOutcome ∷ closeVerify ∷ openUpdate ∷ []) (by-message 1 (askOpen writeOnly (flashName Image)) (Open writeOnly (Flash Image)) fresh imageOpen (open-decoded Image) (opens-image (askOpen writeOnly (flashName Image))))
-    (on imageOpen imageClosed updateOpen closeImage (openVerify ∷ commitVerify ∷ goodOutcome ∷ closeVerify ∷ openUpdate ∷ []) (by-message 2 (askClose 0) (Close 0) imageOpen imageClosed (close-decoded 0 (omega arith)) (closes-image (askClose 0)))
-    (on imageClosed verifyOpen updateOpen openVerify (commitVerify ∷ goodOutcome ∷ closeVerify ∷ openUpdate ∷ []) (by-message 3 (askOpen writeOnly (flashName Verify)) (Open writeOnly (Flash Verify)) imageClosed verifyOpen (open-decoded Verify) (opens-verify (askOpen writeOnly (flashName Verify))))
+    on fresh imageOpen updateOpen openImage (closeImage ∷ openVerify ∷ commitVerify ∷ goodOutcome ∷ closeVerify ∷ openUpdate ∷ [])
+    (by-message 1 (askOpen writeOnly (flashName Image)) (Open writeOnly (Flash Image)) fresh imageOpen (open-decoded Image) (opens-image (askOpen writeOnly (flashName Image))))
+    (on imageOpen imageClosed updateOpen closeImage (openVerify ∷ commitVerify ∷ goodOutcome ∷ closeVerify ∷ openUpdate ∷ [])
+    (by-message 2 (askClose 0) (Close 0) imageOpen imageClosed (close-decoded 0 (omega arith)) (closes-image (askClose 0)))
+    (on imageClosed verifyOpen updateOpen openVerify (commitVerify ∷ goodOutcome ∷ closeVerify ∷ openUpdate ∷ [])
+    (by-message 3 (askOpen writeOnly (flashName Verify)) (Open writeOnly (Flash Verify)) imageClosed verifyOpen (open-decoded Verify)
+    (opens-verify (askOpen writeOnly (flashName Verify))))
     (on verifyOpen verifyRuns updateOpen commitVerify (goodOutcome ∷ closeVerify ∷ openUpdate ∷ []) (by-message 4 (askCommit 1) (Commit 1 0 0) verifyOpen verifyRuns (commit-decoded 1 (omega arith)) (commits-verify (askCommit 1)))
     (on verifyRuns verifyGood updateOpen goodOutcome (closeVerify ∷ openUpdate ∷ []) (by-outcome true verifyRuns verifyGood good-verify)
     (on verifyGood verifyClosed updateOpen closeVerify (openUpdate ∷ []) (by-message 5 (askClose 1) (Close 1) verifyGood verifyClosed (close-decoded 1 (omega arith)) (closes-verify (askClose 1)))
-    (on verifyClosed updateOpen updateOpen openUpdate [] (by-message 6 (askOpen writeOnly (flashName Update)) (Open writeOnly (Flash Update)) verifyClosed updateOpen (open-decoded Update) (opens-update (askOpen writeOnly (flashName Update))))
+    (on verifyClosed updateOpen updateOpen openUpdate [] (by-message 6 (askOpen writeOnly (flashName Update)) (Open writeOnly (Flash Update)) verifyClosed updateOpen
+    (open-decoded Update) (opens-update (askOpen writeOnly (flashName Update))))
     (λ (h : isSound updateOpen ≡ true). refl))))))) fresh-sound
 
 open-sound : isSound updateOpen ≡ true
@@ -187,5 +192,6 @@ job-starts = refl
 pub update-starts : startsUpdate (run fresh history) commitUpdate ≡ true
 update-starts =
     ap (λ (x : State). startsUpdate x commitUpdate) runs
-    ∙ ap (λ (x : State). not (eqb (jobState Update updateOpen) running) && eqb (jobState Update x) running) (by-message 7 (askCommit 2) (Commit 2 0 0) updateOpen updateRuns (commit-decoded 2 (omega arith)) (commits-update (askCommit 2)) open-sound)
+    ∙ ap (λ (x : State). not (eqb (jobState Update updateOpen) running) && eqb (jobState Update x) running) (by-message 7 (askCommit 2) (Commit 2 0 0) updateOpen updateRuns
+    (commit-decoded 2 (omega arith)) (commits-update (askCommit 2)) open-sound)
     ∙ job-starts

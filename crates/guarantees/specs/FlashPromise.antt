@@ -12,12 +12,13 @@ use lib.Dec.{eqb}
 use borrow.Author.Tests.{eqb-true, eq-eqb, ne-eqb}
 use lib.ListN.{length, drop}
 use lib.Seq.{getD-set-other, getD-set-same}
-use Rattle.laws.specs.All.{and-true, Or, this, that, or-true}
+use Rattle.laws.specs.All.{and-true, Or, this, that}
 use Rattle.laws.specs.Find.{first}
 use Rattle.laws.specs.Bits.{bit, bit-zero}
 use Rattle.laws.specs.Ranges.{part}
-use Rattle.protocol.specs.Numbers.{rowWords, untried, openCommand, rowCount, slotCount, success, statusUnit, notFound, invalid, noRoom, busy, running, succeeded, imageSize, hashSize, imageBlob, hashBlob, verifyBlob, updateBlob, readOnly, readWrite, writeOnly, failed}
-use Rattle.protocol.specs.Names.{kindOf, flashNumber}
+use Rattle.protocol.specs.Numbers.{rowWords, untried, openCommand, rowCount, slotCount, success, statusUnit, notFound, invalid, noRoom, busy, running, succeeded, imageSize, hashSize, imageBlob, hashBlob, verifyBlob, updateBlob, readOnly}
+use Rattle.protocol.specs.Numbers.{cleanupBlob, readWrite, writeOnly, failed}
+use Rattle.protocol.specs.Names.{kindOf, flashNumber, noKind}
 use Rattle.protocol.specs.Decode.{decoded, numberOf}
 use Rattle.protocol.specs.Frame.{Reply, refused, done, reply, framed}
 use Rattle.protocol.specs.declared.FlashKind.{FlashKind}
@@ -38,7 +39,8 @@ use Rattle.rules.specs.Command.{Command, read, write, commit, stat, close, writ
 use Rattle.rules.specs.Flash.{withPhase, writeFlash, startable, verifyJob, updateJob, commitKind, commitFlash, closedFlash, closeFlash, jobEnds, onFlash}
 use Rattle.rules.specs.Session.{onPart, onPlace, onRow, Address, by, job, meant, onFound, onSession}
 use Rattle.rules.specs.Sweep.{stale, sweepRow, sweepRows, noted, due, swept}
-use Rattle.rules.specs.Open.{slotNamed, rowOn, freeRowIn, freeSlotIn, freshId, newRow, opened, newSlot, heldSlot, openNew, openFree, openHeld, openNamed, openStore, flashListed, openedFlash, openFlashFree, openFlashQuiet, openFlashListed, openFlash, openBlob, deleteQuiet, deleteNamed, deleteBlob}
+use Rattle.rules.specs.Open.{slotNamed, rowOn, freeRowIn, freeSlotIn, freshId, newRow, opened, newSlot, heldSlot, openNew, openFree, openHeld, openNamed, openStore, flashListed, openedFlash, openFlashFree, openFlashQuiet, openFlashListed}
+use Rattle.rules.specs.Open.{openFlash, openBlob, deleteQuiet, deleteNamed, deleteBlob}
 use Rattle.rules.specs.Respond.{Effect, answered, respond}
 use Rattle.rules.specs.Laws.{respond-is, job-is, cond-has, placed-has}
 use Rattle.rules.specs.Change.{Proper, row-new, row-old, Was, was}
@@ -120,16 +122,17 @@ verifiedSince v s [] = v
 verifiedSince v s (e ∷ es) = verifiedSince (watch v s e) (next s e) es
 
 -- ---- kinds
-kind-if : (a b c d : Bool) → cond a Image (cond b Hash (cond c Verify (cond d Update Cleanup))) ≡ Verify → c ≡ true
-kind-if true b c d e = absurd (let z : _≡_ {A = ℕ} 0 1 = cc in omega arith)
-kind-if false true c d e = absurd (let z : _≡_ {A = ℕ} 0 1 = cc in omega arith)
-kind-if false false true d e = refl
-kind-if false false false true e = absurd (let z : _≡_ {A = ℕ} 0 1 = cc in omega arith)
-kind-if false false false false e = absurd (let z : _≡_ {A = ℕ} 0 1 = cc in omega arith)
+kind-if : (a b c d f : Bool) → cond a Image (cond b Hash (cond c Verify (cond d Update (cond f Cleanup noKind)))) ≡ Verify → c ≡ true
+kind-if true b c d f e = absurd (let z : _≡_ {A = ℕ} 0 1 = cc in omega arith)
+kind-if false true c d f e = absurd (let z : _≡_ {A = ℕ} 0 1 = cc in omega arith)
+kind-if false false true d f e = refl
+kind-if false false false true f e = absurd (let z : _≡_ {A = ℕ} 0 1 = cc in omega arith)
+kind-if false false false false true e = absurd (let z : _≡_ {A = ℕ} 0 1 = cc in omega arith)
+kind-if false false false false false e = absurd (let z : _≡_ {A = ℕ} 0 1 = cc in omega arith)
 
 kind-verify : (b : ℕ) → kindOf b ≡ Verify → b ≡ verifyBlob
 unfolding kindOf
-kind-verify b e = eqb-true b verifyBlob (kind-if (eqb b imageBlob) (eqb b hashBlob) (eqb b verifyBlob) (eqb b updateBlob) e)
+kind-verify b e = eqb-true b verifyBlob (kind-if (eqb b imageBlob) (eqb b hashBlob) (eqb b verifyBlob) (eqb b updateBlob) (eqb b cleanupBlob) e)
 
 verify-kind : kindOf verifyBlob ≡ Verify
 unfolding kindOf

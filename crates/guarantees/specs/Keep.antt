@@ -4,12 +4,12 @@ use mathlib.Core.Logic.{_≢_, _⊎_, inl, inr}
 use mathlib.Core.Bool.{Bool, true, false, cond, _&&_}
 use mathlib.Core.Option.{Option, none, some}
 use mathlib.Core.List.{List}
-use Prim.Native.Nat.{ℕ, zero, suc, _+_, _*_, _≤_, _<_}
+use Prim.Native.Nat.{ℕ, zero, suc, _≤_, _<_}
 use native.Mathlib.Omega.{arith}
-use lib.Dec.{eqb, ltb}
-use borrow.Author.Tests.{ltb-false, not-true, eqb-true, eqb-false}
+use lib.Dec.{ltb}
+use borrow.Author.Tests.{ltb-false, not-true, eqb-true}
 use lib.ListN.{length, length-replicate}
-use Rattle.laws.specs.All.{and-true, Or, this, that, or-true}
+use Rattle.laws.specs.All.{and-true, Or, this, that}
 use Rattle.laws.specs.Bytes.{padded-length}
 use Rattle.laws.specs.Ranges.{part}
 use Rattle.laws.specs.Find.{first}
@@ -35,7 +35,8 @@ use Rattle.rules.specs.Store.{withStaged}
 use Rattle.rules.specs.Command.{Command, close, endJob}
 use Rattle.rules.specs.Session.{Address, job, meant, onRow, onFound, onSession}
 use Rattle.rules.specs.Sweep.{stale, sweepRow, sweepRows, noted, due, swept}
-use Rattle.rules.specs.Open.{slotNamed, rowOn, freeRowIn, freeSlotIn, after, freshId, newRow, opened, newSlot, heldSlot, openNew, openFree, openHeld, openNamed, openStore, flashListed, openedFlash, openFlashFree, openFlashQuiet, openFlashListed, openFlash, openBlob, deleteQuiet, deleteNamed, deleteBlob}
+use Rattle.rules.specs.Open.{slotNamed, rowOn, freeRowIn, freeSlotIn, after, freshId, newRow, opened, newSlot, heldSlot, openNew, openFree, openHeld, openNamed, openStore, flashListed, openedFlash, openFlashFree, openFlashQuiet}
+use Rattle.rules.specs.Open.{openFlashListed, openFlash, openBlob, deleteQuiet, deleteNamed, deleteBlob}
 use Rattle.rules.specs.Respond.{Effect, answered, respond, jobOutcome}
 use Rattle.rules.specs.Laws.{respond-is, job-is}
 use Rattle.rules.specs.Change.{change-sound, NewName, added-sound, values-sound}

@@ -9,7 +9,7 @@ use lib.Dec.{eqb}
 use lib.ListN.{length}
 use Rattle.laws.specs.Find.{first}
 use Rattle.laws.specs.Ranges.{part}
-use Rattle.protocol.specs.Numbers.{notFound, invalid, rowCount, slotSize, imageSize, hashSize, success, running, readOnly, writeOnly}
+use Rattle.protocol.specs.Numbers.{notFound, invalid, rowCount, slotSize, imageSize, hashSize, success, running, writeOnly}
 use Rattle.protocol.specs.Names.{kindOf, flashNumber}
 use Rattle.protocol.specs.Decode.{decoded, numberOf}
 use Rattle.protocol.specs.Frame.{Reply, refused, done, reply, framed}
@@ -28,7 +28,8 @@ use Rattle.rules.specs.Command.{Command, read, write, commit, stat, close, writ
 use Rattle.rules.specs.Flash.{writeFlash, startable, verifyJob, updateJob, commitKind, commitFlash, closeFlash, jobEnds, onFlash}
 use Rattle.rules.specs.Session.{onPart, onPlace, Address, job, meant, onFound, onSession}
 use Rattle.rules.specs.Sweep.{swept}
-use Rattle.rules.specs.Open.{slotNamed, rowOn, freeRowIn, freeSlotIn, opened, openNew, openFree, openHeld, openNamed, openStore, flashListed, openFlashFree, openFlashQuiet, openFlashListed, openFlash, openBlob, deleteQuiet, deleteNamed, deleteBlob}
+use Rattle.rules.specs.Open.{slotNamed, rowOn, freeRowIn, freeSlotIn, opened, openNew, openFree, openHeld, openNamed, openStore, flashListed, openFlashFree, openFlashQuiet, openFlashListed, openFlash, openBlob, deleteQuiet, deleteNamed}
+use Rattle.rules.specs.Open.{deleteBlob}
 use Rattle.rules.specs.Respond.{Effect, effectOf, unsound, answered, respond, silent, jobOutcome}
 use Rattle.rules.specs.Laws.{cond-has, placed-has}
 

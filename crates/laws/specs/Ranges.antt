@@ -7,7 +7,8 @@ use native.Mathlib.Nat.{suc-mul, zero-add, suc-add, mul-le-mul-right, add-zero, 
 use native.Mathlib.Omega.{arith}
 use native.Mathlib.Decide.{decLt}
 use lib.ListN.{replicate, length-replicate, getD-replicate, length, getD, set, take, drop, length-take, length-drop, length-set, drop-of-length-le}
-use lib.Seq.{ext-getD, sets, paste, sets-eq, length-sets, getD-set-other, set-comm, set-getD, drop-set-lt, drop-set-add, take-set-le, drop-cons, take-at, drop-at, length-take-le, take-all, take-nil, drop-nil, getD-take, getD-drop, set-set, take-take, drop-drop}
+use lib.Seq.{ext-getD, sets, paste, sets-eq, length-sets, getD-set-other, set-comm, set-getD, drop-set-lt, drop-set-add, take-set-le, drop-cons}
+use lib.Seq.{take-at, drop-at, length-take-le, take-all, take-nil, drop-nil, getD-take, getD-drop, set-set, take-take, drop-drop}
 use Rattle.laws.specs.Lens.{Lens, Indep, Steady, indep-sym}
 
 pub block-fits : (n a b : ℕ) → a < b → a * n + n ≤ b * n

@@ -6,7 +6,8 @@ use lib.Dec.{eqb, leb}
 use lib.ListN.{length, getD, take, drop}
 use Rattle.laws.specs.Bytes.{little, same, text}
 use Rattle.crc.specs.Crc.{crc}
-use Rattle.protocol.specs.Numbers.{oem, headerSize, crcSize, messageSize, wrongLength, invalid, unknownCommand, countCommand, enumerateCommand, openCommand, readCommand, writeCommand, commitCommand, closeCommand, deleteCommand, statCommand, sessionStatCommand, writeMetaCommand}
+use Rattle.protocol.specs.Numbers.{oem, headerSize, crcSize, messageSize, wrongLength, invalid, unknownCommand, countCommand, enumerateCommand}
+use Rattle.protocol.specs.Numbers.{openCommand, readCommand, writeCommand, commitCommand, closeCommand, deleteCommand, statCommand, sessionStatCommand, writeMetaCommand}
 use Rattle.protocol.specs.Names.{nameForm, blobNamed}
 use Rattle.protocol.specs.declared.Blob.{Blob}
 use Rattle.protocol.specs.declared.Request.{Request}

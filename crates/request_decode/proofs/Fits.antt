@@ -16,12 +16,24 @@ use Rattle.request_names.proofs.Names.{tail-part}
 use Rattle.request_reader.proofs.Little.{in-rest}
 use Rattle.protocol.specs.Decode.{bodyFits, crcFits}
 
--- a subcommand above 9 is WriteMeta
-pub other-body : (sub n : ℕ) → (sub ≡ 0 → ⊥) → (sub ≡ 1 → ⊥) → (sub ≡ 2 → ⊥) → (sub ≡ 3 → ⊥) → (sub ≡ 4 → ⊥) → (sub ≡ 5 → ⊥) → (sub ≡ 6 → ⊥)
-    → (sub ≡ 7 → ⊥) → (sub ≡ 8 → ⊥) → (sub ≡ 9 → ⊥) → leb 8 n ≡ bodyFits sub n
+-- no body is right for a subcommand that there is not
+pub no-command : (sub n : ℕ) → (sub ≡ 0 → ⊥) → (sub ≡ 1 → ⊥) → (sub ≡ 2 → ⊥) → (sub ≡ 3 → ⊥) → (sub ≡ 4 → ⊥) → (sub ≡ 5 → ⊥) → (sub ≡ 6 → ⊥)
+    → (sub ≡ 7 → ⊥) → (sub ≡ 8 → ⊥) → (sub ≡ 9 → ⊥) → (sub ≡ 10 → ⊥) → false ≡ bodyFits sub n
 unfolding bodyFits
-other-body sub n n0 n1 n2 n3 n4 n5 n6 n7 n8 n9 =
-    rw (ne-eqb sub 0 n0, ne-eqb sub 1 n1, ne-eqb sub 2 n2, ne-eqb sub 3 n3, ne-eqb sub 4 n4, ne-eqb sub 5 n5, ne-eqb sub 6 n6, ne-eqb sub 7 n7, ne-eqb sub 8 n8, ne-eqb sub 9 n9)
+no-command sub n n0 n1 n2 n3 n4 n5 n6 n7 n8 n9 n10 =
+    rw (
+      ne-eqb sub 0 n0,
+      ne-eqb sub 1 n1,
+      ne-eqb sub 2 n2,
+      ne-eqb sub 3 n3,
+      ne-eqb sub 4 n4,
+      ne-eqb sub 5 n5,
+      ne-eqb sub 6 n6,
+      ne-eqb sub 7 n7,
+      ne-eqb sub 8 n8,
+      ne-eqb sub 9 n9,
+      ne-eqb sub 10 n10,
+    )
 
 -- how long a body is at least
 cond-same : (b : Bool) → cond b false false ≡ false

@@ -31,7 +31,8 @@ fn body_fits(sub: u8, n: usize) -> bool
         Subcommand::DELETE => 3 <= n,
         Subcommand::STAT => 3 <= n,
         Subcommand::SESSION_STAT => n == 4,
-        _ => 8 <= n,
+        Subcommand::WRITE_META => 8 <= n,
+        _ => false,
     }
 }
 

@@ -1,5 +1,6 @@
 -- One walk for `take_u8`, `take_u16` and `take_u32`, whose MIR differs in the result's width w, in how far the reader moves, n, and in the covered function that is called, f.
--- The outer borrow is opened, the number is advanced beside the slice that the struct holds, and the borrow is closed at the struct moved on. The struct is Copy: what it owned is had twice, and of one copy what body owns goes to the callee, beside its lifetime's token, which comes back.
+-- The outer borrow is opened, the number is advanced beside the slice that the struct holds, and the borrow is closed at the struct moved on. The
+-- struct is Copy: what it owned is had twice, and of one copy what body owns goes to the callee, beside its lifetime's token, which comes back.
 --     Leaf w le        the contract of `u8_at`, `u16_at`, `u32_at`: what le says stands at a place.        Take w n le      the contract of the three
 --     function w n f   the MIR.        take-meets       it meets the contract, wherever f meets Leaf
 -- Each function's generated contract and MIR compute to these, so its proof cites `take-meets`. Assumes nothing.
@@ -127,7 +128,8 @@ behind = plain (λ κs. T.the-row (namedLft 2 1 tt κs))
 abbrev stayed : (w : Width) → Stays (ended w .signature .params) (ended w .kept)
 stayed w = (stay-ref (0 ∷ []) tt behind, tt)
 
-module _ {M : Type 1} (𝓤 : URA M) (H : Heap 𝓤) (A : Atoms 𝓤) (W : Given 𝓤 H A) (w : Width) (n : ℕ) (n-fits : Holds (ltb n (2 ^ 64))) (le : List ℕ → ℕ → ℕ) (f : Name) (κ κ′ : Lft) (q q′ : Share) (bounds : AllOutlive 2 (signature w .outlives) (κ, (κ′, tt))) (b o : ℕ) (γ : GName) (h : Reader) (ok : h .at + n < 2 ^ 64) where
+module _ {M : Type 1} (𝓤 : URA M) (H : Heap 𝓤) (A : Atoms 𝓤) (W : Given 𝓤 H A) (w : Width) (n : ℕ) (n-fits : Holds (ltb n (2 ^ 64))) (le : List ℕ → ℕ → ℕ) (f : Name) (κ κ′ : Lft)
+    (q q′ : Share) (bounds : AllOutlive 2 (signature w .outlives) (κ, (κ′, tt))) (b o : ℕ) (γ : GName) (h : Reader) (ok : h .at + n < 2 ^ 64) where
   abbrev x : RefT Reader × Unit {0}
   x = (record { ptr = (b, o); name = γ; now = h }, tt)
 
@@ -174,7 +176,8 @@ module _ {M : Type 1} (𝓤 : URA M) (H : Heap 𝓤) (A : Atoms 𝓤) (W : Given
   goes : h .at < 2 ^ 64 → ent 𝓤 (⋆ 𝓤 H A ((‵ (flft κ′ q′) ⊛ ‵ ftrue) ∷ ‵ Own ∷ [])) (Leaf 𝓤 H A w le .pre to)
   goes fits =
       qed W ((‵ (flft κ′ q′) ⊛ ‵ ftrue) ∷ ‵ Own ∷ []) ∵ move ! (1 ∷ []) $
-      use1 W (given (mach ∷ [] ≡ mach ∷ []) (‵ (all-own (D .parts) L vh))) (own-open 𝓤 H A W D L vh mach) $ learn ! (λ _. use1 W (‵ (ownAt (D .parts) L 0 (h .body)) ⊛ ‵ (rest (D .parts) L 0 vh)) (own-out 𝓤 H A W (D .parts) L 0 vh) $ split ! $
+      use1 W (given (mach ∷ [] ≡ mach ∷ []) (‵ (all-own (D .parts) L vh))) (own-open 𝓤 H A W D L vh mach) $
+      learn ! (λ _. use1 W (‵ (ownAt (D .parts) L 0 (h .body)) ⊛ ‵ (rest (D .parts) L 0 vh)) (own-out 𝓤 H A W (D .parts) L 0 vh) $ split ! $
       move ! (1 ∷ []) $ drop ! $ nothing ! $ owned ! usize (Is usize) (uint-makes 𝓤 H A W w64) (h .at) _ (refl, fits) $ fjoin ! $ move ! (1 ∷ 0 ∷ []) $ fjoin ! $
       move ! (1 ∷ 0 ∷ []) $ join ! $ frame ! $ done !)
 
@@ -215,7 +218,8 @@ module _ {M : Type 1} (𝓤 : URA M) (H : Heap 𝓤) (A : Atoms 𝓤) (W : Given
         -- [the result; 'a's token; obs; the borrow; the outer token; true; _4; …; _3; …; _2; …; _1; …; room for _0; …]
         peeks ! (UInt w) (Is (UInt w)) (shows 𝓤 H A (UInt w)) r (u ∷ []) (λ is. land ! (from ! (stop !)) (init ! 14 refl (uint-lawful 𝓤 H A W w .typed r _ is .0)) $
         returns ! (look ! 14 refl) $ forget ! 6 refl $ forget ! 8 refl $ forget ! 10 refl $ forget ! 12 refl $ forget ! 14 refl $
-        move ! (14 ∷ 15 ∷ []) $ free1 ! $ move ! (12 ∷ 13 ∷ []) $ free1 ! $ move ! (10 ∷ 11 ∷ []) $ free1 ! $ move ! (8 ∷ 9 ∷ []) $ free1 ! $ move ! (6 ∷ 7 ∷ []) $ free1 ! $ free0 ! $ keep ! (0 ∷ 1 ∷ 2 ∷ 3 ∷ 4 ∷ []) $ by ! (exits r u e))))))))))))
+        move ! (14 ∷ 15 ∷ []) $ free1 ! $ move ! (12 ∷ 13 ∷ []) $ free1 ! $ move ! (10 ∷ 11 ∷ []) $ free1 ! $ move ! (8 ∷ 9 ∷ []) $ free1 ! $ move ! (6 ∷ 7 ∷ []) $ free1 ! $
+        free0 ! $ keep ! (0 ∷ 1 ∷ 2 ∷ 3 ∷ 4 ∷ []) $ by ! (exits r u e))))))))))))
 
 module _ {M : Type 1} (𝓤 : URA M) (H : Heap 𝓤) (A : Atoms 𝓤) (W : Given 𝓤 H A) (w : Width) (n : ℕ) (n-fits : Holds (ltb n (2 ^ 64))) (le : List ℕ → ℕ → ℕ) (f : Name) where
   take-walks : (C : Calls 𝓤 H) (Λ : Loops 𝓤 H) → FmC 𝓤 H (W .laws) C → Triple 𝓤 (C f) (Leaf 𝓤 H A w le) → Walks 𝓤 H A (ended w) (stayed w) (WpFn 𝓤 H C Λ (function w n f)) (clauses 𝓤 w n le)
@@ -224,4 +228,6 @@ module _ {M : Type 1} (𝓤 : URA M) (H : Heap 𝓤) (A : Atoms 𝓤) (W : Given
 
 pub take-meets : {M : Type 1} (𝓤 : URA M) (H : Heap 𝓤) (A : Atoms 𝓤) → Given 𝓤 H A → (w : Width) (n : ℕ) (n-fits : Holds (ltb n (2 ^ 64))) (le : List ℕ → ℕ → ℕ) (f : Name) (𝓣 : Tables 𝓤 H) → Triple 𝓤 (𝓣 .C f) (Leaf 𝓤 H A w le)
     → Meets 𝓤 H A (signature w) (WpFn 𝓤 H (𝓣 .C) (𝓣 .Λ) (function w n f)) (closing 𝓤 H A (ended w) (clauses 𝓤 w n le))
-take-meets 𝓤 H A W w n n-fits le f 𝓣 known = walk-meets 𝓤 H A (ended w) (stayed w) W (goes-ref 𝓤 H A W 2 0 tt behind, tt) (clauses 𝓤 w n le) (WpFn 𝓤 H (𝓣 .C) (𝓣 .Λ) (function w n f)) (WpFn-mono 𝓤 H (W .laws) 𝓣 (function w n f)) (take-walks 𝓤 H A W w n n-fits le f (𝓣 .C) (𝓣 .Λ) (fmOf 𝓤 H (W .laws) 𝓣) known)
+take-meets 𝓤 H A W w n n-fits le f 𝓣 known =
+    walk-meets 𝓤 H A (ended w) (stayed w) W (goes-ref 𝓤 H A W 2 0 tt behind, tt) (clauses 𝓤 w n le) (WpFn 𝓤 H (𝓣 .C) (𝓣 .Λ) (function w n f))
+    (WpFn-mono 𝓤 H (W .laws) 𝓣 (function w n f)) (take-walks 𝓤 H A W w n n-fits le f (𝓣 .C) (𝓣 .Λ) (fmOf 𝓤 H (W .laws) 𝓣) known)

@@ -1,5 +1,7 @@
--- A call of a function that takes a number of n bytes from a `&mut Reader`, on a local `Reader`, as one step of a walk: the local is lent and comes back moved on (`Lent.antt`), and the value that the call returned is the number at the reader's place.
--- One law for `take_u8`, `take_u16` and `take_u32`: w is the result's width, n how far the reader moves, and le what stands at a place. All that it knows of the callee is that it meets the contract `Take w n le`, which each of the three computes to.
+-- A call of a function that takes a number of n bytes from a `&mut Reader`, on a local `Reader`, as one step of a walk: the local is lent and comes
+-- back moved on (`Lent.antt`), and the value that the call returned is the number at the reader's place.
+-- One law for `take_u8`, `take_u16` and `take_u32`: w is the result's width, n how far the reader moves, and le what stands at a place. All that it
+-- knows of the callee is that it meets the contract `Take w n le`, which each of the three computes to.
 -- Assumes `Given`.
 use mathlib.Core.Path.{_≡_, refl, sym, ap, _∙_, subst}
 use Prim.Native.Nat.{ℕ, _<_, _^_, _+_}
@@ -55,8 +57,10 @@ module _ {M : Type 1} {𝓤 : URA M} {H : Heap 𝓤} {A : Atoms 𝓤} {K : Type 
   took t fm w n le known κ q b o h ok os k =
       lends t tt κ q b o h (λ ν γ. use3 W (raw (Take 𝓤 H A w n le .pre (to 𝓤 H A w n le κ q b o h ν γ))) (goes 𝓤 H A w n le κ q b o h W ok ν γ) $
       calls-at t fm (Take 𝓤 H A w n le) known (to 𝓤 H A w n le κ q b o h ν γ) (os ν γ) (λ u.
-      use1 W (later (some (λ (r : ℕ). ((‵ (flft (ν ∷ κ) (PosShare·left q)) ⊛ (‵ (flft κ (PosShare·right q)) ⊛ ‵ ftrue)) ⊛ ‵ ((UInt w) .own r (u ∷ []))) ⊛ raw (ensured 𝓤 H A (ended w) (clauses 𝓤 w n le) (ν ∷ κ, (κ, tt)) (record { ptr = (b, o); name = γ; now = h }, tt) tt r)))) (id⊢ 𝓤 _) $ await t tt $ pick t (λ r.
-      split t $ move t (1 ∷ []) $ use1 W (some (λ (zs : Reader × Unit {0}). ‵ (lasts (ended w) (ν ∷ κ, (κ, tt)) (record { ptr = (b, o); name = γ; now = h }, tt) zs) ⊛ raw (fact 𝓤 ((r ≡ le (now (h .body)) (h .at)) × (zs .0 ≡ onward h n))))) (id⊢ 𝓤 _) $ pick t (λ zs.
+      use1 W (later (some (λ (r : ℕ). ((‵ (flft (ν ∷ κ) (PosShare·left q)) ⊛ (‵ (flft κ (PosShare·right q)) ⊛ ‵ ftrue)) ⊛ ‵ ((UInt w) .own r (u ∷ []))) ⊛ raw
+      (ensured 𝓤 H A (ended w) (clauses 𝓤 w n le) (ν ∷ κ, (κ, tt)) (record { ptr = (b, o); name = γ; now = h }, tt) tt r)))) (id⊢ 𝓤 _) $ await t tt $ pick t (λ r.
+      split t $ move t (1 ∷ []) $ use1 W (some (λ (zs : Reader × Unit {0}). ‵ (lasts (ended w) (ν ∷ κ, (κ, tt)) (record { ptr = (b, o); name = γ; now = h }, tt) zs) ⊛ raw
+      (fact 𝓤 ((r ≡ le (now (h .body)) (h .at)) × (zs .0 ≡ onward h n))))) (id⊢ 𝓤 _) $ pick t (λ zs.
       split t $ move t (1 ∷ []) $ heard t ((r ≡ le (now (h .body)) (h .at)) × (zs .0 ≡ onward h n)) (λ e. fsplit t $ rewrite t 0 (λ (z : Reader). ‵ (fres γ (R κ .coded .code z))) (e .1) refl $
       -- [the last value; true; the tokens and the result; the lender's part; Kept; …]
       move t (2 ∷ []) $ split t $ move t (1 ∷ []) $ facts t (UInt w) (Is (UInt w)) (shows 𝓤 H A (UInt w)) r (u ∷ []) (λ is. split t $ move t (1 ∷ []) $ split t $ move t (2 ∷ 0 ∷ 5 ∷ 6 ∷ 3 ∷ []) $

@@ -51,7 +51,11 @@ pub sealed : (sub n : ℕ) (h c a x z : List ℕ) (at : ℕ) → h ≡ header su
     → z ≡ paste x at c (length c) → fieldsAt + n ≤ length a
     → (fieldsAt + n ≡ length (framed sub (reply (part fieldsAt n a)) .1)) × (z ≡ answerAfter sub (reply (part fieldsAt n a)) a)
 unfolding framed bytesOf
-sealed sub n h c a x z at eh ec ex eat ez l = (ap (λ (k : ℕ). fieldsAt + k) (sym (length-part fieldsAt n a l)) ∙ long sub (part fieldsAt n a), ez ∙ laid-more h c a x at (omega arith) first ∙ front ∙ stands (header sub ++ bytesOf 2 (crc (part fieldsAt n a))) a n l)
+sealed sub n h c a x z at eh ec ex eat ez l = (
+  ap (λ (k : ℕ). fieldsAt + k) (sym (length-part fieldsAt n a l)) ∙ long sub (part fieldsAt n a),
+  ez ∙ laid-more h c a x at (omega arith) first ∙ front ∙ stands
+      (header sub ++ bytesOf 2 (crc (part fieldsAt n a))) a n l,
+)
   where
     first : x ≡ laid h a
     first = ex ∙ laid-more [] h a a 0 refl refl

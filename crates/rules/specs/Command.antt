@@ -10,42 +10,43 @@ use Rattle.protocol.specs.Frame.{Reply, refused}
 use Rattle.state.specs.State.{Row}
 use Rattle.state.specs.Words.{flagsIn, statusIn, cleanIn}
 
--- what a session is asked; a job outcome, which is no message, is asked of the flash session
+-- what a session is asked; the end of a job, which no message tells, is asked of the flash session (rule 17.1)
 pub data Command : Type 0 where
-  read : ℕ → ℕ → Command
-  write : ℕ → List ℕ → Command
-  commit : ℕ → ℕ → Command
+  read : (offset count : ℕ) → Command
+  write : (offset : ℕ) → List ℕ → Command
+  commit : (len rest : ℕ) → Command
   stat : Command
   close : Command
   writeMeta : Command
-  endJob : Bool → Command
+  endJob : (good : Bool) → Command
 
--- what a command answers, and what it leaves of the session's row and body
+-- what a command replies, and what it leaves of the session's row and body
 abbrev pub Out : Type 0 → Type 0
 Out B = Reply × (Row × B)
 
--- a refusal leaves the part as found
-abbrev pub refuse : {B : Type 0} → ℕ → Row → B → Out B
+-- a refusal leaves both as they were (rule 7.12)
+abbrev pub refuse : {B : Type 0} → (code : ℕ) → Row → B → Out B
 refuse code r b = (refused code, (r, b))
 
--- ---- Write, of n bytes at an offset into a region: "offset above length (C9); end above capacity (C8)"; else what it does
-unfoldable pub placed : {B : Type 0} → ℕ → ℕ → ℕ → ℕ → Row → B → Out B → Out B
+-- ---- Write
+-- its last two checks, of n bytes at an offset into a region: offset past the length (C9), end past the capacity (C8); else what it does (rule 11.1)
+unfoldable pub placed : {B : Type 0} (capacity len offset n : ℕ) → Row → B → Out B → Out B
 placed capacity len offset n r b accepted = cond (leb offset len) (cond (leb (offset + n) capacity) accepted (refuse tooLong r b)) (refuse outOfRange r b)
 
--- "Only the addressed bytes change"
-abbrev pub bytesAfter : List ℕ → ℕ → List ℕ → List ℕ
+-- the region after it (rule 11.3)
+abbrev pub bytesAfter : (written : List ℕ) (offset : ℕ) (region : List ℕ) → List ℕ
 bytesAfter ws offset region = sets region offset ws
 
--- "length becomes the greater of itself and the end"
-abbrev pub lengthAfter : List ℕ → ℕ → ℕ → ℕ
+-- the length after it (rule 11.4)
+abbrev pub lengthAfter : (written : List ℕ) (offset len : ℕ) → ℕ
 lengthAfter ws offset len = max len (offset + length ws)
 
--- ---- Commit: "length byte must equal the bytes after it and be 0 (CC)"
-abbrev pub commitFits : ℕ → ℕ → Bool
+-- ---- Commit: its length byte tells how many bytes are behind it, and is 0 (rule 12.2)
+abbrev pub commitFits : (len rest : ℕ) → Bool
 commitFits len rest = eqb len rest && eqb len 0
 
--- ---- SessionStat: "Bits 0 and 1 are the session's flags; 2, 3, 4 are status 1, 2, 3; bit 3 is also clean"
-unfoldable pub stateBits : ℕ → ℕ
+-- ---- SessionStat: the state bits of a session whose third word is w (rule 15.4)
+unfoldable pub stateBits : (word : ℕ) → ℕ
 stateBits w =
     flagsIn w % 4
     + (cond (eqb (statusIn w) running) stateCommitting 0

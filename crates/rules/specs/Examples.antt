@@ -288,7 +288,8 @@ freed-701 i s h = row-freed 701 i s h refl (ap not (ne-eqb (statusOf (inRow i .g
 at-701 : (i flags : ℕ) (b : Blob) (m : List ℕ) (s : State) → Stamped i s → decoded m ≡ Open flags b → Closed i 701 s (respond 701 m s .state)
 at-701 i flags b m s h d = (freed-701 i s h, go (after-open 701 flags b m s (h .all-sound) d i .row-then))
   where
-    go : Or (inRow i .get (respond 701 m s .state) ≡ inRow i .get (swept 701 s)) ((inRow i .get (swept 701 s) .used ≡ 0) × (stampOf (inRow i .get (respond 701 m s .state)) ≡ 701)) → Or (inRow i .get (respond 701 m s .state) ≡ freeRow) (stampOf (inRow i .get (respond 701 m s .state)) ≡ 701)
+    go : Or (inRow i .get (respond 701 m s .state) ≡ inRow i .get (swept 701 s)) ((inRow i .get (swept 701 s) .used ≡ 0) × (stampOf (inRow i .get (respond 701 m s .state)) ≡ 701))
+        → Or (inRow i .get (respond 701 m s .state) ≡ freeRow) (stampOf (inRow i .get (respond 701 m s .state)) ≡ 701)
     go (this e) = this (e ∙ freed-701 i s h)
     go (that e) = that (e .1)
 

@@ -24,8 +24,10 @@ use Rattle.state.specs.declared.Phase.the-variants.{Uploading}
 use Rattle.state.specs.State.{State, Row, Slot, FlashBody, Place, slot, flash, Body}
 use Rattle.state.specs.Words.{wordOf, stampOf, flagsIn, statusOf, wordWith, writes, writingIn, stamped, withClean, flags-with, blobOf, flashFlags}
 use Rattle.state.specs.Soundness.{slotAt, isSound}
-use Rattle.rules.specs.Store.{readCount, readStore, stored, writeStore, onStore, seenLength, withStaged, seenBytes, commitWriting, commitStore}
-use Rattle.rules.specs.Command.{Command, read, write, commit, stat, close, writeMeta, endJob, Out, refuse, stateBits, bytesAfter, lengthAfter, commitFits}
+use Rattle.rules.specs.Store.{readCount, readStore}
+use Rattle.rules.specs.Command.{Command, read, write, commit, stat, close, writeMeta, endJob, Out, refuse}
+use Rattle.rules.specs.Store.{stored, writeStore, onStore, seenLength, withStaged, seenBytes, commitWriting, commitStore}
+use Rattle.rules.specs.Command.{stateBits, bytesAfter, lengthAfter, commitFits}
 use Rattle.rules.specs.Session.{job, meant, onPart}
 use Rattle.rules.specs.Open.{slotNamed, freshId, after, opened, openFlash, openFlashListed, openFlashQuiet, openFlashFree, openedFlash, flashListed, freeRowIn}
 use Rattle.rules.specs.Laws.{cond-has, placed-has}

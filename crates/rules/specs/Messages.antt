@@ -99,7 +99,15 @@ crc-fits sub f =
 pub decoded-sent : (sub : ℕ) (f : List ℕ) → sub ≤ writeMetaCommand → length f ≤ readMost → bodyFits sub (crcSize + length f) ≡ true → decoded (sent sub f) ≡ asked sub (sent sub f)
 unfolding decoded bytesOf
 decoded-sent sub f hs hf hb =
-    rw (le-leb headerSize (length (sent sub f)) (let e = length-sent sub f in omega arith), le-leb (length (sent sub f)) messageSize (let e = length-sent sub f in omega arith), same-refl oem, le-leb sub writeMetaCommand hs, body-sent sub f, hb, crc-fits sub f)
+    rw (
+      le-leb headerSize (length (sent sub f)) (let e = length-sent sub f in omega arith),
+      le-leb (length (sent sub f)) messageSize (let e = length-sent sub f in omega arith),
+      same-refl oem,
+      le-leb sub writeMetaCommand hs,
+      body-sent sub f,
+      hb,
+      crc-fits sub f,
+    )
 
 -- a Read says what it asks
 pub read-decoded : (session offset count : ℕ) → session < sixteenBits → offset < thirtyTwoBits → count < thirtyTwoBits → decoded (askRead session offset count) ≡ Read session offset count

@@ -1,4 +1,4 @@
--- What the cabinet does with a message, and with a job outcome.
+-- What the library does with a message, and with a job outcome.
 use mathlib.Core.Bool.{Bool, cond}
 use mathlib.Core.List.{List, []}
 use Prim.Native.Nat.{ℕ}
@@ -17,7 +17,7 @@ use Rattle.rules.specs.Sweep.{swept}
 use Rattle.rules.specs.Open.{openBlob, deleteBlob, statBlob}
 use Rattle.rules.specs.Listing.{counted, enumerated}
 
--- the completion code, the response's bytes, and the state after it
+-- what a call does: the completion code, the response's bytes, and the state after it
 pub record Effect : Type 0 where
   pub code : ℕ
   pub response : List ℕ
@@ -26,8 +26,8 @@ pub record Effect : Type 0 where
 abbrev pub effectOf : Answer → State → Effect
 effectOf a s = record { code = a .0; response = a .1; state = s }
 
--- each command; t is the clock and m the message, where Write's bytes and the names stand
-unfoldable pub answered : Request → ℕ → List ℕ → State → Reply × State
+-- EACH COMMAND at the clock t; the message m has Write's bytes and the names (rule 3.5). Count, Enumerate and Stat change nothing (rules 8.5 and 15.10), Open sweeps first (rule 9.2)
+unfoldable pub answered : Request → (t : ℕ) → List ℕ → State → Reply × State
 answered Count t m s = (counted s, s)
 answered (Enumerate index) t m s = (enumerated index s, s)
 answered (Open flags blob) t m s = openBlob blob flags t m (swept t s)
@@ -41,22 +41,22 @@ answered (SessionStat session) t m s = onSession (by session) t stat s
 answered (WriteMeta session) t m s = onSession (by session) t writeMeta s
 answered (Refused code) t m s = (refused (code .0), s)
 
--- "FF: state not sound", before all else; a refusal leaves the state
+-- FF, and the state as it was (rule 7.12)
 abbrev pub unsound : State → Effect
 unsound s = effectOf (notSound, []) s
 
--- a message at the clock t
-unfoldable pub respond : ℕ → List ℕ → State → Effect
+-- A MESSAGE at the clock t: soundness comes before all other checks (rule 7.13)
+unfoldable pub respond : (t : ℕ) → List ℕ → State → Effect
 respond t m s = cond (isSound s) (effectOf (framed (numberOf (decoded m)) (answered (decoded m) t m s .0)) (answered (decoded m) t m s .1)) (unsound s)
 
--- "code 00, no response"
+-- a success without response (rule 17.3)
 unfoldable pub silent : Reply → Answer
 silent (refused code) = (code, [])
 silent done = (success, [])
 silent (reply f) = (success, [])
 
--- a job outcome, good or failed; it has no clock, and no stamp changes
-unfoldable pub jobOutcome : Bool → State → Effect
+-- A JOB OUTCOME, good or failed; it has no clock (rule 17.1)
+unfoldable pub jobOutcome : (good : Bool) → State → Effect
 jobOutcome good s = cond (isSound s) (effectOf (silent (onSession job 0 (endJob good) s .0)) (onSession job 0 (endJob good) s .1)) (unsound s)
 
 -- ---- the answer buffer
@@ -67,10 +67,10 @@ pub record Served : Type 0 where
   pub state : State
   pub answer : List ℕ
 
--- "A success writes the response at the front of the answer buffer and keeps the bytes behind it."
+-- the response stands at the front of the answer buffer, and the bytes behind it are kept (rule 19.2)
 abbrev pub servedWith : Effect → List ℕ → Served
 servedWith o a = record { code = o .code; len = length (o .response); state = o .state; answer = laid (o .response) a }
 
--- THE LIBRARY'S FUNCTION: a message at the clock t, the state and the answer buffer; the buffer is lent too, and its length must be exact
-unfoldable pub served : ℕ → List ℕ → State → List ℕ → Served
+-- THE LIBRARY'S FUNCTION: a message at the clock t, the state and the answer buffer, whose size is tested too (rules 5.1 and 19.1)
+unfoldable pub served : (t : ℕ) → List ℕ → State → List ℕ → Served
 served t m s a = servedWith (cond (eqb (length a) answerSize) (respond t m s) (unsound s)) a

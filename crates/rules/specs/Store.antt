@@ -1,4 +1,4 @@
--- What a command does on the part of a store session: its row and its slot.
+-- What each command does on a store session: on its row r and its slot b, at the clock t.
 use mathlib.Core.Bool.{Bool, true, false, cond}
 use mathlib.Core.List.{List, [], _∷_}
 use Prim.Native.Nat.{ℕ, _-_, min}
@@ -11,63 +11,70 @@ use Rattle.state.specs.State.{Row, Slot}
 use Rattle.state.specs.Words.{wordOf, writes, stamped, withClean, freeRow, freeSlot}
 use Rattle.rules.specs.Command.{Command, read, write, commit, stat, close, writeMeta, endJob, Out, refuse, placed, bytesAfter, lengthAfter, commitFits, stateBits}
 
--- ---- Read: "A read-only session sees committed bytes, a writing one staged bytes"
-abbrev pub seenBytes : Bool → Slot → List ℕ
+-- ---- Read
+-- what a session sees: one that writes the staged region and length, another the committed ones (rule 10.2)
+abbrev pub seenBytes : (writing : Bool) → Slot → List ℕ
 seenBytes writing b = cond writing (b .stagedBytes) (b .committedBytes)
 
-abbrev pub seenLength : Bool → Slot → ℕ
+abbrev pub seenLength : (writing : Bool) → Slot → ℕ
 seenLength writing b = cond writing (b .stagedLen) (b .committedLen)
 
--- "the least of requested, 58 and length minus offset; zero from the end on"
-abbrev pub readCount : ℕ → ℕ → ℕ → ℕ
+-- how many bytes are sent; from the end on none (rule 10.3)
+abbrev pub readCount : (requested offset len : ℕ) → ℕ
 readCount requested offset len = min requested (min readMost (len - offset))
 
-unfoldable pub readStore : Bool → ℕ → ℕ → ℕ → Row → Slot → Out Slot
+-- the bytes sent, and the stamp raised (rule 10.4); also where there are none, it is a success with fields (rule 1.7)
+unfoldable pub readStore : (writing : Bool) (t offset n : ℕ) → Row → Slot → Out Slot
 readStore writing t offset n r b = (reply (part offset (readCount n offset (seenLength writing b)) (seenBytes writing b)), (stamped t r, b))
 
+-- ---- Write
 -- the slot with other staged bytes and length
-abbrev pub withStaged : List ℕ → ℕ → Slot → Slot
+abbrev pub withStaged : List ℕ → (len : ℕ) → Slot → Slot
 withStaged l n b = record { name = b .name; committedBytes = b .committedBytes; stagedBytes = l; held = b .held; mark = b .mark; committedLen = b .committedLen; stagedLen = n }
 
--- "A nonempty write clears clean."
-unfoldable pub stored : List ℕ → ℕ → ℕ → Row → Slot → Out Slot
+-- the bytes stored: no bytes keep clean, one or more clear it (rule 11.5)
+unfoldable pub stored : List ℕ → (t offset : ℕ) → Row → Slot → Out Slot
 stored [] t offset r b = (done, (stamped t r, b))
 stored (w ∷ ws) t offset r b =
     (done, (stamped t (withClean 0 r), withStaged (bytesAfter (w ∷ ws) offset (b .stagedBytes)) (lengthAfter (w ∷ ws) offset (b .stagedLen)) b))
 
--- "any but store with WRITE .. (D5)"
-unfoldable pub writeStore : Bool → List ℕ → ℕ → ℕ → Row → Slot → Out Slot
+-- only a session that writes may (D5), into its staged region (rules 11.1 and 11.2)
+unfoldable pub writeStore : (writing : Bool) → List ℕ → (t offset : ℕ) → Row → Slot → Out Slot
 writeStore true ws t offset r b = placed slotSize (b .stagedLen) offset (length ws) r b (stored ws t offset r b)
 writeStore false ws t offset r b = refuse notSupported r b
 
--- "the staged region and length become the committed ones, slot committed, clean"
+-- ---- Commit
+-- staged region and length are committed too, and the slot is marked (rule 12.3)
 abbrev pub committedSlot : Slot → Slot
 committedSlot b = record { name = b .name; committedBytes = b .stagedBytes; stagedBytes = b .stagedBytes; held = b .held; mark = 1; committedLen = b .stagedLen; stagedLen = b .stagedLen }
 
--- "read-only store .. (D5)"
-unfoldable pub commitWriting : Bool → ℕ → Row → Slot → Out Slot
+-- only a session that writes may (D5); it is clean then (rule 12.3)
+unfoldable pub commitWriting : (writing : Bool) (t : ℕ) → Row → Slot → Out Slot
 commitWriting true t r b = (done, (stamped t (withClean 1 r), committedSlot b))
 commitWriting false t r b = refuse notSupported r b
 
-unfoldable pub commitStore : Bool → ℕ → Row → Slot → Out Slot
+-- the length byte comes first (CC) (rule 12.1)
+unfoldable pub commitStore : (fits : Bool) (t : ℕ) → Row → Slot → Out Slot
 commitStore true t r b = commitWriting (writes r) t r b
 commitStore false t r b = refuse invalid r b
 
--- ---- Close: "Writing store session: staged region and length zero; if never committed the slot, its name and its committed region are zeroed and free for use."
-unfoldable pub closedWriting : Bool → Slot → Slot
+-- ---- Close
+-- the slot that was written: nothing staged (rule 13.4), and all of it free if it was never committed (rule 13.5)
+unfoldable pub closedWriting : (committed : Bool) → Slot → Slot
 closedWriting true b = withStaged (replicate slotSize 0) 0 b
 closedWriting false b = freeSlot
 
-unfoldable pub closedSlot : Bool → Slot → Slot
+-- a read-only session leaves its slot as it is (rule 13.3)
+unfoldable pub closedSlot : (writing : Bool) → Slot → Slot
 closedSlot true b = closedWriting (eqb (b .mark) 1) b
 closedSlot false b = b
 
--- "Size: session's view"
+-- ---- SessionStat: the size is the length that the session sees (rule 15.5)
 abbrev pub statStore : Row → Slot → List ℕ
 statStore r b = statFields (stateBits (wordOf r)) (seenLength (writes r) b)
 
--- ---- each command on a store session
-unfoldable pub onStore : ℕ → Command → Row → Slot → Out Slot
+-- ---- EACH COMMAND on a store session; WriteMeta is not supported (rule 16.1), and no job ends here
+unfoldable pub onStore : (t : ℕ) → Command → Row → Slot → Out Slot
 onStore t (read offset n) r b = readStore (writes r) t offset n r b
 onStore t (write offset ws) r b = writeStore (writes r) ws t offset r b
 onStore t (commit len rest) r b = commitStore (commitFits len rest) t r b

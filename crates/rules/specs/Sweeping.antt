@@ -3,15 +3,15 @@ use mathlib.Core.Path.{_≡_, refl, sym, _∙_, ap, ap₂, subst}
 use mathlib.Core.Logic.{_≢_, Ne·symm}
 use mathlib.Core.Bool.{Bool, true, false, cond, _&&_}
 use mathlib.Core.List.{List}
-use Prim.Native.Nat.{ℕ, zero, suc, _+_, _-_, _≤_, _<_, _*_}
+use Prim.Native.Nat.{ℕ, zero, suc, _+_, _≤_, _<_, _*_}
 use native.Mathlib.Omega.{arith}
 use native.Mathlib.Decide.{ℕ-discrete}
-use lib.Dec.{eqb, leb}
+use lib.Dec.{leb}
 use borrow.Author.Tests.{eq-eqb, ne-eqb}
 use lib.ListN.{length}
 use Rattle.laws.specs.All.{Or, this, that}
 use Rattle.laws.specs.Ranges.{part}
-use Rattle.protocol.specs.Numbers.{rowCount, running, notFound, invalid, rowWords, readOnly, writeOnly, sweepEvery}
+use Rattle.protocol.specs.Numbers.{rowCount, running, notFound, invalid, rowWords, writeOnly, sweepEvery}
 use Rattle.protocol.specs.Frame.{Reply, refused}
 use Rattle.protocol.specs.Names.{kindOf, flashNumber}
 use Rattle.protocol.specs.declared.Blob.{Blob}
@@ -24,7 +24,8 @@ use Rattle.rules.specs.Command.{close}
 use Rattle.rules.specs.Flash.{closeFlash, onFlash}
 use Rattle.rules.specs.Session.{onPart, onRow, meant, job}
 use Rattle.rules.specs.Sweep.{stale, sweepRow, sweepRows, noted, due, swept}
-use Rattle.rules.specs.Open.{flashListed, openBlob, freshId, newRow, opened, newSlot, heldSlot, openNew, openFree, openHeld, openNamed, openStore, openedFlash, openFlashFree, openFlashQuiet, openFlashListed, openFlash, slotNamed, rowOn, freeRowIn, freeSlotIn}
+use Rattle.rules.specs.Open.{flashListed, openBlob, freshId, newRow, opened, newSlot, heldSlot, openNew, openFree, openHeld, openNamed, openStore, openedFlash, openFlashFree, openFlashQuiet, openFlashListed, openFlash, slotNamed}
+use Rattle.rules.specs.Open.{rowOn, freeRowIn, freeSlotIn}
 use Rattle.rules.specs.Laws.{cond-has, other-rows, by-own-part, table-after}
 use Rattle.rules.specs.Searches.{free-row}
 use Rattle.laws.specs.Find.{first}
@@ -80,7 +81,8 @@ turn-keeps t i s h = go (inUse i s) h
     go false e = refl
 
 -- a session over its time, without a running job, is freed
-pub turn-frees : (t i : ℕ) (s : State) → i < rowCount → length (s .sessions .table) ≡ rowCount * rowWords → inRow i .get s .used ≡ 1 → stale t (inRow i .get s) ≡ true → statusOf (inRow i .get s) ≢ running → inRow i .get (sweepRow t i s) ≡ freeRow
+pub turn-frees : (t i : ℕ) (s : State) → i < rowCount → length (s .sessions .table) ≡ rowCount * rowWords → inRow i .get s .used ≡ 1 → stale t (inRow i .get s) ≡ true → statusOf
+    (inRow i .get s) ≢ running → inRow i .get (sweepRow t i s) ≡ freeRow
 unfolding sweepRow
 turn-frees t i s low len u h n =
     ap (λ (z : Bool). inRow i .get (cond z (onRow i t close s .1) s)) (ap₂ (λ (a b : Bool). a && b) (eq-eqb (inRow i .get s .used) 1 u) h)

@@ -31,12 +31,12 @@ unfoldable pub bytesIn : List Timed → ℕ
 bytesIn [] = 0
 bytesIn (q ∷ qs) = prefixSize + length (q .1) + bytesIn qs
 
--- the lines of requests that are answered one after another
+-- the lines of requests, each answered on the state that the one before left (rule 20.1)
 unfoldable pub linesOf : List Timed → State → List ℕ
 linesOf [] s = []
 linesOf (q ∷ qs) s = lineOf (respond (q .0) (q .1) s .code) (respond (q .0) (q .1) s .response) ++ linesOf qs (respond (q .0) (q .1) s .state)
 
--- "a cut record gives `CUT` last"; no bytes left is no cut
+-- what is left when no whole record is: nothing, or a cut record (rules 20.3 and 20.5)
 abbrev pub endOf : List ℕ → List ℕ
 endOf [] = []
 endOf (x ∷ b) = cutLine
@@ -45,7 +45,7 @@ endOf (x ∷ b) = cutLine
 unfoldable pub printed : List ℕ → State → List ℕ
 printed b s = linesOf (requests b) s ++ endOf (drop (bytesIn (requests b)) b)
 
--- THE PROGRAM'S OUTPUT: "From a fresh state the program reads records .."
+-- THE PROGRAM'S OUTPUT for a file, from the fresh state (rule 20.1)
 abbrev pub output : List ℕ → List ℕ
 output file = printed file fresh
 

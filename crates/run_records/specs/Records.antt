@@ -1,4 +1,4 @@
--- The program's input: "records of clock (4 bytes), message length (1 byte), message", little-endian. b stands for the bytes from a record's first on.
+-- The program's input (rule 20.2). b stands for the bytes from a record's first on.
 use mathlib.Core.Bool.{Bool, cond}
 use mathlib.Core.List.{List}
 use Prim.Native.Nat.{ℕ, _+_}
@@ -16,10 +16,11 @@ clockSize = 4
 abbrev pub prefixSize : ℕ
 prefixSize = 5
 
+-- a record's clock (rule 20.2)
 abbrev pub clockOf : List ℕ → ℕ
 clockOf b = little clockSize 0 b
 
--- the length byte, 0 if it is not there
+-- its length byte, 0 if it is not there (rule 20.2)
 abbrev pub lengthOf : List ℕ → ℕ
 lengthOf b = getD b clockSize 0
 
@@ -27,10 +28,11 @@ lengthOf b = getD b clockSize 0
 abbrev pub sizeOf : List ℕ → ℕ
 sizeOf b = prefixSize + lengthOf b
 
+-- its message (rule 20.2)
 abbrev pub messageOf : List ℕ → List ℕ
 messageOf b = part prefixSize (lengthOf b) b
 
--- all of a record is there; it is cut where fewer than 5 bytes are left, or fewer than its length says
+-- all of it is there; else it is cut (rule 20.3)
 abbrev pub isWhole : List ℕ → Bool
 isWhole b = leb (sizeOf b) (length b)
 

@@ -61,7 +61,8 @@ module _ (t offset : ℕ) (ws : List ℕ) (x : Row) (b : FlashBody) where
   write-none Update p = refl
   write-none Cleanup p = refl
 
-  pub write-image : (k : FlashKind) → k ≡ Image → onFlash k t (write offset ws) x b ≡ placed imageSize (b .imageLen) offset (length ws) x b (done, (stamped t x, withImage (sets (b .image) offset ws) (max (b .imageLen) (offset + length ws)) b))
+  pub write-image : (k : FlashKind) → k ≡ Image → onFlash k t (write offset ws) x b ≡ placed imageSize (b .imageLen) offset (length ws) x b
+      (done, (stamped t x, withImage (sets (b .image) offset ws) (max (b .imageLen) (offset + length ws)) b))
   unfolding onFlash writeFlash
   write-image k p = rw p
 
@@ -96,7 +97,8 @@ module _ (t len rest : ℕ) (e : Entry) (used : ℕ) (b : FlashBody) where
   update-starts true = refl
   update-starts false = refl
 
-  commit-verify : (k : FlashKind) → commitFits len rest ≡ true → k ≡ Verify → onFlash k t (commit len rest) x b ≡ (done, (record { words = wordsOf (lifted (started e) t); used = used }, withPhase (cond (startableIn (e .word)) Uploading (b .phase)) b))
+  commit-verify : (k : FlashKind) → commitFits len rest ≡ true → k ≡ Verify → onFlash k t (commit len rest) x b
+      ≡ (done, (record { words = wordsOf (lifted (started e) t); used = used }, withPhase (cond (startableIn (e .word)) Uploading (b .phase)) b))
   unfolding onFlash commitFlash commitKind
   commit-verify k p q = rw (p, q) (verify-starts (startableIn (e .word)))
 
@@ -167,13 +169,15 @@ module _ (s : State) (r : ℕ) (e : Entry) (words : block rowWords r .get (s .se
 
     -- into a region l of the flash that has `len` bytes; `put` puts another region and length in their place
     pub write-is : (capacity : ℕ) (l : List ℕ) (len : ℕ) (put : List ℕ → ℕ → FlashBody) (w : Written) (said : Said) (table l′ : List ℕ) (len′ : ℕ) → put l len ≡ s .flashGroup
-        → onFlash (kindOf (e .blob)) t (write offset ws) (rowRead r e s) (s .flashGroup) ≡ placed capacity len offset (length ws) (rowRead r e s) (s .flashGroup) (done, (stamped t (rowRead r e s), put (sets l offset ws) (max len (offset + length ws))))
+        → onFlash (kindOf (e .blob)) t (write offset ws) (rowRead r e s) (s .flashGroup) ≡ placed capacity len offset (length ws) (rowRead r e s) (s .flashGroup)
+        (done, (stamped t (rowRead r e s), put (sets l offset ws) (max len (offset + length ws))))
         → length l ≡ capacity → w ≡ written (length l) len offset (length ws) → said ≡ saidBy w → table ≡ tableBy w r (wordsOf (lifted e t)) (s .sessions .table) → l′ ≡ regionBy w offset ws l → len′ ≡ lengthBy w len
         → (replyOf said answer, after table (put l′ len′)) ≡ onRow r t (write offset ws) s
     write-is capacity l len put w said table l′ len′ same h size pw ps pt pl pn =
         (λ i. (replyOf (ps i) answer, after (pt i) (put (pl i) (pn i))))
         ∙ ap Left (pw ∙ ap (λ (m : ℕ). written m len offset (length ws)) size)
-        ∙ written-has capacity len offset (length ws) (rowRead r e s) (s .flashGroup) accepted (λ (y : Written) (o : Out FlashBody). onFlash (kindOf (e .blob)) t (write offset ws) (rowRead r e s) (s .flashGroup) ≡ o → Left y ≡ onRow r t (write offset ws) s)
+        ∙ written-has capacity len offset (length ws) (rowRead r e s) (s .flashGroup) accepted (λ (y : Written) (o : Out FlashBody). onFlash (kindOf (e .blob)) t (write offset ws)
+        (rowRead r e s) (s .flashGroup) ≡ o → Left y ≡ onRow r t (write offset ws) s)
         (λ (p : offset ≤ len) (q : offset + length ws ≤ capacity) (u : onFlash (kindOf (e .blob)) t (write offset ws) (rowRead r e s) (s .flashGroup) ≡ accepted). part-does (write offset ws) done (lifted e t) _ _ _ u refl refl)
         (λ (code : ℕ) (u : onFlash (kindOf (e .blob)) t (write offset ws) (rowRead r e s) (s .flashGroup) ≡ refuse code (rowRead r e s) (s .flashGroup)).
         ap (λ (y : FlashBody). (refused code, after (s .sessions .table) y)) same ∙ part-refuses (write offset ws) code u)

@@ -20,8 +20,10 @@ use Rattle.state.specs.Parts.{slotOf-steady}
 use Rattle.state.specs.Words.{writes, writingIn, stamped, withClean, freeRow, freeSlot}
 use Rattle.state.specs.Soundness.{slotAt}
 use Rattle.state.specs.Agree.{place-slot}
-use Rattle.rules.specs.Store.{onStore, readStore, readCount, seenLength, seenBytes, writeStore, stored, withStaged, commitStore, commitWriting, committedSlot, closedSlot, closedWriting, statStore}
-use Rattle.rules.specs.Command.{Command, read, write, commit, stat, close, Out, refuse, placed, bytesAfter, lengthAfter, commitFits, stateBits}
+use Rattle.rules.specs.Store.{onStore, readStore, readCount, seenLength, seenBytes, writeStore}
+use Rattle.rules.specs.Command.{Command, read, write, commit, stat, close, Out, refuse}
+use Rattle.rules.specs.Store.{stored, withStaged, commitStore, commitWriting, committedSlot, closedSlot, closedWriting, statStore}
+use Rattle.rules.specs.Command.{placed, bytesAfter, lengthAfter, commitFits, stateBits}
 use Rattle.rules.specs.Session.{onRow}
 use Rattle.protocol.specs.Sizes.{slot-size}
 use Rattle.response_types.specs.declared.Said.{Said}
@@ -151,13 +153,23 @@ module _ (s : State) (r : ℕ) (e : Entry) (words : block rowWords r .get (s .se
         → (
           done,
           with s (record { table = table; rows = s .sessions .rows })
-              (record { names = s .store .names; committed = c; staged = s .store .staged; slots = s .store .slots; marks = marks; committedLens = set (s .store .committedLens) (e .blob) (getD (s .store .stagedLens) (e .blob) 0); stagedLens = s .store .stagedLens })
+              (record {
+                names = s .store .names;
+                committed = c;
+                staged = s .store .staged;
+                slots = s .store .slots;
+                marks = marks;
+                committedLens = set (s .store .committedLens)
+                    (e .blob) (getD (s .store .stagedLens) (e .blob) 0);
+                stagedLens = s .store .stagedLens;
+              })
               (s .flashGroup),
         )
         ≡ onRow r t (commit len rest) s
     commit-is table c marks p q u1 u2 u3 =
         part-does (commit len rest) done (lifted (cleanSet e 1) t) (committedSlot (slotAt (e .blob) s)) table _ (commit-writer t (rowRead r e s) (slotAt (e .blob) s) len rest p q) u1
-        (slot-put (e .blob) (committedSlot (slotAt (e .blob) s)) (s .store) _ (block-steady 0 nameSize (e .blob) (s .store .names)) (sym u2) (block-steady 0 slotSize (e .blob) (s .store .staged)) (put-bit (e .blob) (s .store .slots)) (sym u3) refl (set-getD (s .store .stagedLens) (e .blob) 0))
+        (slot-put (e .blob) (committedSlot (slotAt (e .blob) s)) (s .store) _ (block-steady 0 nameSize (e .blob) (s .store .names)) (sym u2)
+        (block-steady 0 slotSize (e .blob) (s .store .staged)) (put-bit (e .blob) (s .store .slots)) (sym u3) refl (set-getD (s .store .stagedLens) (e .blob) 0))
 
   -- Close
   module _ (table : List ℕ) (rows : ℕ) (u1 : table ≡ block rowWords r .put (freeRow .words) (s .sessions .table)) (u2 : rows ≡ putBit r 0 (s .sessions .rows)) where
@@ -179,7 +191,11 @@ module _ (s : State) (r : ℕ) (e : Entry) (words : block rowWords r .get (s .se
 
   -- Read
   read-does : (offset count : ℕ) (table : List ℕ) → table ≡ block rowWords r .put (wordsOf (lifted e t)) (s .sessions .table)
-      → (reply (part offset (readCount count offset (seenLength (writes (rowRead r e s)) (slotAt (e .blob) s))) (seenBytes (writes (rowRead r e s)) (slotAt (e .blob) s))), with s (record { table = table; rows = s .sessions .rows }) (s .store) (s .flashGroup))
+      → (
+        reply (part offset (readCount count offset (seenLength (writes (rowRead r e s)) (slotAt (e .blob) s))) (seenBytes (writes (rowRead r e s)) (slotAt (e .blob) s))),
+        with s
+            (record { table = table; rows = s .sessions .rows }) (s .store) (s .flashGroup),
+      )
       ≡ onRow r t (read offset count) s
   unfolding onStore readStore
   read-does offset count table p = part-does (read offset count) _ (lifted e t) (slotAt (e .blob) s) table (s .store) refl p (slotOf-steady (e .blob) (s .store))

@@ -3,7 +3,7 @@ use mathlib.Core.Path.{_≡_, refl, sym, _∙_, ap, subst}
 use mathlib.Core.Logic.{_≢_, _⊎_, inl, inr}
 use mathlib.Core.Bool.{Bool, true, false, not, cond, _&&_, _||_, true≢false}
 use mathlib.Core.List.{[], _∷_}
-use Prim.Native.Nat.{ℕ, zero, suc, _+_, _*_, _%_, _≤_, _<_}
+use Prim.Native.Nat.{ℕ, zero, suc, _+_, _%_, _≤_, _<_}
 use native.Mathlib.Omega.{arith}
 use native.Mathlib.Decide.{decLt, ℕ-discrete}
 use lib.Dec.{eqb, ltb, leb}
@@ -11,7 +11,7 @@ use borrow.Author.Tests.{eqb-true, eqb-false, leb-true, ltb-true, ltb-false, eq-
 use lib.ListN.{replicate}
 use Rattle.laws.specs.All.{all, all-at, all-of, all-fails, all-false, and-true, and-both, pairs, pairs-at, pairs-of, Or, this, that, or-true, or-left, or-right, or-false, clash-not, not-clash}
 use Rattle.laws.specs.Bytes.{zeros, zeros-true, replicate-zeros, same, same-false, ne-same}
-use Rattle.laws.specs.Bits.{bit, bit-lt}
+use Rattle.laws.specs.Bits.{bit-lt}
 use Rattle.protocol.specs.Numbers.{rowCount, slotCount, nameSize, slotSize, sixteenBits, wordLimit, cleanupBlob}
 use Rattle.protocol.specs.declared.FlashKind.{FlashKind}
 use Rattle.protocol.specs.declared.FlashKind.the-variants.{Image, Hash, Verify, Update, Cleanup}
@@ -21,7 +21,8 @@ use Rattle.state.specs.declared.Phase.the-variants.{Idle, Uploading, Ver
 use Rattle.state.specs.State.{State, Slot, FlashBody, Place, slot, flash, placeOf, inRow, inBody}
 use Rattle.state.specs.Parts.{Separate, InRange, Shape, FitsSlot, row-view-fits, body-view-fits}
 use Rattle.state.specs.Words.{wordOf, flagsIn, statusIn, cleanIn, writingIn, writesWith, freeSlot, ident, blob, inUse, Live}
-use Rattle.state.specs.Soundness.{slotAt, isIdle, isUploading, isVerified, lentRight, valuesFit, flashFits, readerClean, cleanCommitted, storeRow, jobFits, flashRow, usedRow, rowOk, rowsClash, rowsApart, writesSlot, hasWriter, usedSlot, unusedSlot, slotOk, namesApart, isSound}
+use Rattle.state.specs.Soundness.{slotAt, isIdle, isUploading, isVerified, lentRight, valuesFit, flashFits, readerClean, cleanCommitted, storeRow, jobFits, flashRow, usedRow, rowOk, rowsClash, rowsApart, writesSlot, hasWriter}
+use Rattle.state.specs.Soundness.{usedSlot, unusedSlot, slotOk, namesApart, isSound}
 use Rattle.state.specs.Facts.{StoreSession, StoreIdle, PhaseOk, FlashIdle, FlashSession, Session, Unheld, Sound}
 
 -- ---- phases

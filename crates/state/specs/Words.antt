@@ -109,8 +109,16 @@ Live r s = (r < rowCount) × (inRow r .get s .used ≡ 1)
 unfoldable pub fresh : State
 fresh = record {
   sessions = record { table = replicate (rowCount * rowWords) 0; rows = 0 };
-  store = record
-      { names = replicate (slotCount * nameSize) 0; committed = replicate (slotCount * slotSize) 0; staged = replicate (slotCount * slotSize) 0; slots = 0; marks = 0; committedLens = replicate slotCount 0; stagedLens = replicate slotCount 0 };
+  store = record {
+    names = replicate (slotCount * nameSize) 0;
+    committed = replicate (slotCount * slotSize) 0;
+    staged = replicate (slotCount * slotSize) 0;
+    slots = 0;
+    marks = 0;
+    committedLens
+        = replicate slotCount 0;
+    stagedLens = replicate slotCount 0;
+  };
   flashGroup = emptyFlash;
   next = 0;
   lastSweep = 0;

@@ -132,7 +132,7 @@ pub fn greater(a: u32, b: u32) -> u32
     if a < b { b } else { a }
 }
 
-// The flash name of a blob number that is no slot's.
+// The flash name of a blob number that is no slot's. A number above cleanup's is taken for cleanup; no sound row has one.
 pub fn kind_of(blob: u32) -> FlashKind
     ensures { λ x. ⌜ x ≡ kindOf blob ⌝ }
 {

@@ -9,13 +9,30 @@ use Rattle.blobrun.proofs.print_lent.Statement.{statement}
 use Rattle.blobrun.proofs.print_lent.Tie as tie
 
 abbrev Inv-loop : tie.InvT-loop
-Inv-loop fd path table₀ names₀ committed₀ staged₀ image₀ hash₀ answer₀ input₀ text₀ control₀ filled₀ going₀ turns₀ table names committed staged image hash answer input text control filled going turns =
+Inv-loop fd path table₀ names₀ committed₀ staged₀ image₀ hash₀ answer₀ input₀ text₀ control₀ filled₀ going₀ turns₀ table names committed staged image hash answer input text control
+    filled going turns =
     (filled ≤ length input)
-    × (length table ≡ length table₀) × (length names ≡ length names₀) × (length committed ≡ length committed₀) × (length staged ≡ length staged₀) × (length image ≡ length image₀) × (length hash ≡ length hash₀) × (length answer ≡ length answer₀) × (length input ≡ length input₀) × (length text ≡ length text₀)
+    × (length table ≡ length table₀) × (length names ≡ length names₀) × (length committed ≡ length committed₀) × (length staged ≡ length staged₀) × (length image ≡ length image₀)
+    × (length hash ≡ length hash₀) × (length answer ≡ length answer₀) × (length input ≡ length input₀) × (length text ≡ length text₀)
 
 abbrev μ-loop : tie.MeasureT-loop
 μ-loop fd path table₀ names₀ committed₀ staged₀ image₀ hash₀ answer₀ input₀ text₀ control₀ filled₀ going₀ turns₀ table names committed staged image hash answer input text control filled going turns =
     turns
+
+-- the places that the answers read
+abbrev at-loop : tie.After-take-turn-arg9 Inv-loop μ-loop → tie.At-loop Inv-loop μ-loop
+at-loop c = c .before .before .before .before .before .before .before .before .before .before
+
+abbrev in-loop : tie.After-control Inv-loop μ-loop → tie.In-loop Inv-loop μ-loop
+in-loop c =
+    c .before .before .before .before .before .before .before .before .before .before .before .before .before .before
+    .before .before .before .before .before .before .before .before .before .before .before .before .before .before
+    .before
+
+abbrev at-take-turn : tie.After-control Inv-loop μ-loop → tie.After-take-turn Inv-loop μ-loop
+at-take-turn c =
+    c .before .before .before .before .before .before .before .before .before .before .before .before .before .before
+    .before .before .before .before .before
 
 fresh-requires : tie.Need-fresh-requires Inv-loop μ-loop
 fresh-requires c κs = tt
@@ -24,21 +41,21 @@ loop-holds : tie.Need-loop-holds Inv-loop μ-loop
 loop-holds c = (omega arith, refl, refl, refl, refl, refl, refl, refl, refl, refl)
 
 take-turn-requires : tie.Need-take-turn-requires Inv-loop μ-loop
-take-turn-requires c κs = c .before .before .before .before .before .before .before .before .before .before .loop .inv .0
+take-turn-requires c κs = at-loop c .loop .inv .0
 
 left : (c : tie.In-loop Inv-loop μ-loop) → 1 ≤ c .before .loop .turns
 left c = ltb-true 0 (c .before .loop .turns) (and-true (c .before .loop .going) _ (c .loop-test .taken) .1)
 
 sub-turns : tie.Need-sub-turns Inv-loop μ-loop
-sub-turns c = omega (arith, left (c .before .before .before .before .before .before .before .before .before .before .before .before .before .before .before .before .before .before .before .before .before .before .before .before .before .before .before .before .before))
+sub-turns c = omega (arith, left (in-loop c))
 
 loop-less : tie.Need-loop-less Inv-loop μ-loop
-loop-less c = omega (arith, left (c .before .before .before .before .before .before .before .before .before .before .before .before .before .before .before .before .before .before .before .before .before .before .before .before .before .before .before .before .before))
+loop-less c = omega (arith, left (in-loop c))
 
 loop-again : tie.Need-loop-again Inv-loop μ-loop
 loop-again c =
-    let l = c .before .before .before .before .before .before .before .before .before .before .before .before .before .before .before .before .before .before .before .before .before .before .before .before .before .before .before .before .before .before .loop in
-    let t = c .before .before .before .before .before .before .before .before .before .before .before .before .before .before .before .before .before .before .before .take-turn in (
+    let l = in-loop c .before .loop in
+    let t = at-take-turn c .take-turn in (
       omega (arith, t .ensures, t .kept .1 .1 .1 .1 .1 .1 .1 .1 .1 .1 .1 .0),
       t .kept .1 .1 .1 .1 .0 ∙ l .inv .1,
       t .kept .1 .1 .1 .1 .1 .0 ∙ l .inv .2,

@@ -8,6 +8,13 @@ use borrow.Author.Needs.{needs}
 use Rattle.blobrun.proofs.read_more.Statement.{statement}
 use Rattle.blobrun.proofs.read_more.Tie as tie
 
+-- the places that the answers read
+abbrev entry : tie.After-write-end-arg → tie.Start
+entry c = c .before .before .before .before .before .before .before .before .before .before .before .before
+
+abbrev at-read : tie.After-write-end-arg → tie.After-read
+at-read c = c .before .before .before .before .before .before .before .before
+
 sub-read : tie.Need-sub-read
 sub-read c = search needs
 
@@ -46,8 +53,9 @@ slice-reshare-prefix-write-end c = search needs
 
 slice-aggregate-write-end : tie.Need-slice-aggregate-write-end
 slice-aggregate-write-end c =
-    let a = c .before .before .before .before .before .before .before .before .before .before .before .before .args in
-    sym (ap length (take-put (a .filled) (length (a .input .now) - a .filled) (a .input .now) (c .before .before .before .before .before .before .before .before .read .last .1 .0) (c .before .before .before .before .before .before .before .before .before .before .before .before .pre)) ∙ length-take-le (a .filled) (a .input .now) (c .before .before .before .before .before .before .before .before .before .before .before .before .pre))
+    let start = entry c in
+    let a = start .args in
+    sym (ap length (take-put (a .filled) (length (a .input .now) - a .filled) (a .input .now) (at-read c .read .last .1 .0) (start .pre)) ∙ length-take-le (a .filled) (a .input .now) (start .pre))
 
 write-end-requires : tie.Need-write-end-requires
 write-end-requires c κs = search needs

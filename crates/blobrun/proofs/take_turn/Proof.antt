@@ -5,11 +5,32 @@ use borrow.Author.Needs.{needs}
 use Rattle.blobrun.proofs.take_turn.Statement.{statement}
 use Rattle.blobrun.proofs.take_turn.Tie as tie
 
+-- the places that the answers read
+abbrev entry : tie.After-run-arg → tie.Start
+entry c = c .before .before .before .before .before .before .before .before .before .before .before
+
+abbrev entry₂ : tie.After-write-lines-arg2 → tie.Start
+entry₂ c =
+    c .before .before .before .before .before .before .before .before .before .before .before .before .before .before
+    .before .before .before .before .before .before .before .before .before .before .before .before .before .before
+    .before .before .before .before .before .before .before .before .before .before .before .before
+
+abbrev entry₃ : tie.After-read-more-arg → tie.Start
+entry₃ c =
+    c .before .before .before .before .before .before .before .before .before .before .before .before .before .before
+    .before .before .before .before .before .before .before .before .before .before .before .before .before .before
+    .before .before .before .before .before .before .before .before .before .before .before
+
+abbrev at-run : tie.After-write-lines-arg → tie.After-run
+at-run c =
+    c .before .before .before .before .before .before .before .before .before .before .before .before .before .before
+    .before .before .before .before .before
+
 slice-reshare-prefix-run : tie.Need-slice-reshare-prefix-run
 slice-reshare-prefix-run c = search needs
 
 slice-aggregate-run : tie.Need-slice-aggregate-run
-slice-aggregate-run c = sym (length-take-le _ _ (c .before .before .before .before .before .before .before .before .before .before .before .pre))
+slice-aggregate-run c = sym (length-take-le _ _ (entry c .pre))
 
 run-requires : tie.Need-run-requires
 run-requires c κs = search needs
@@ -18,10 +39,10 @@ slice-reshare-prefix-write-lines : tie.Need-slice-reshare-prefix-write-lines
 slice-reshare-prefix-write-lines c = search needs
 
 slice-aggregate-write-lines : tie.Need-slice-aggregate-write-lines
-slice-aggregate-write-lines c = sym (length-take-le _ _ (c .before .before .before .before .before .before .before .before .before .before .before .before .before .before .before .before .before .before .before .run .ensures .1 .0))
+slice-aggregate-write-lines c = sym (length-take-le _ _ (at-run c .run .ensures .1 .0))
 
 write-lines-requires : tie.Need-write-lines-requires
-write-lines-requires c κs = c .before .before .before .before .before .before .before .before .before .before .before .before .before .before .before .before .before .before .before .before .before .before .before .before .before .before .before .before .before .before .before .before .before .before .before .before .before .before .before .before .pre
+write-lines-requires c κs = entry₂ c .pre
 
 same-length : tie.Need-same-length
 same-length c = search needs
@@ -54,7 +75,7 @@ returns : tie.Need-returns
 returns c = search needs
 
 read-more-requires : tie.Need-read-more-requires
-read-more-requires c κs = c .before .before .before .before .before .before .before .before .before .before .before .before .before .before .before .before .before .before .before .before .before .before .before .before .before .before .before .before .before .before .before .before .before .before .before .before .before .before .before .pre
+read-more-requires c κs = entry₃ c .pre
 
 same-length-10 : tie.Need-same-length-10
 same-length-10 c = search needs

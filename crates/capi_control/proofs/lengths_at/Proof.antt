@@ -11,6 +11,10 @@ use borrow.Author.Needs.{needs}
 use Rattle.capi_control.proofs.lengths_at.Statement.{statement}
 use Rattle.capi_control.proofs.lengths_at.Tie as tie
 
+-- the places that the answers read
+abbrev entry : tie.After-lengths2 → tie.Start
+entry c = c .before .before .before .before .before
+
 add-end : tie.Need-add-end
 add-end c = search needs
 
@@ -33,11 +37,11 @@ put-words-requires : tie.Need-put-words-requires
 put-words-requires c κs = search needs
 
 returns : tie.Need-returns
-returns c = let a = c .before .before .before .before .before .args in
+returns c = let a = entry c .args in
     let e : a .at + slotCount - a .at ≡ slotCount = omega arith in
     c .before .put-words .ensures
     ∙ ap (λ (n : ℕ). sets (replicate slotCount 0) 0 (part (a .at) n (a .words .now))) e
-    ∙ sets-whole (replicate slotCount 0) (part (a .at) slotCount (a .words .now)) (length-part (a .at) slotCount (a .words .now) (c .before .before .before .before .before .pre))
+    ∙ sets-whole (replicate slotCount 0) (part (a .at) slotCount (a .words .now)) (length-part (a .at) slotCount (a .words .now) (entry c .pre))
 
 pub lengths-at-spec : {M : Type 1} → statement M
 lengths-at-spec =

@@ -9,6 +9,30 @@ use borrow.Author.Needs.{needs}
 use Rattle.capi_control.proofs.put_control.Statement.{statement}
 use Rattle.capi_control.proofs.put_control.Tie as tie
 
+-- the places that the answers read
+abbrev entry : tie.After-put-words → tie.Start
+entry c = c .before .before .before .before .before .before .before
+
+abbrev entry₂ : tie.After-committed-len2 → tie.Start
+entry₂ c = c .before .before .before .before .before .before .before .before .before .before .before
+
+abbrev entry₃ : tie.After-staged-len2 → tie.Start
+entry₃ c =
+    c .before .before .before .before .before .before .before .before .before .before .before .before .before .before
+    .before .before
+
+abbrev at-phase-number : tie.After-put-words → tie.After-phase-number
+at-phase-number c = c .before .before .before
+
+abbrev at-put-words : tie.After-put-words2 → tie.After-put-words
+at-put-words c = c .before .before .before .before .before
+
+abbrev at-put-words2 : tie.After-put-words3 → tie.After-put-words2
+at-put-words2 c = c .before .before .before .before .before
+
+abbrev at-put-words3 : tie.After-slice-known5 → tie.After-put-words3
+at-put-words3 c = c .before .before .before .before .before .before .before
+
 -- both arrays have 16 lengths
 committed-lens : (c : tie.Start) → length (c .args .control .«committed_len») ≡ slotCount
 committed-lens c = sym (length-map (c .args .control .«committed_len») (λ (x : ℕ). x)) ∙ c .good .1 .0 .1 .1 .1 .1 .1 .0 .1 .0 .1
@@ -29,13 +53,13 @@ slice-aggregate-put-words-2 : tie.Need-slice-aggregate-put-words-2
 slice-aggregate-put-words-2 c = search needs
 
 put-words-requires-2 : tie.Need-put-words-requires-2
-put-words-requires-2 c κs = omega (arith, committed-lens (c .before .before .before .before .before .before .before .before .before .before .before))
+put-words-requires-2 c κs = omega (arith, committed-lens (entry₂ c))
 
 slice-aggregate-put-words-3 : tie.Need-slice-aggregate-put-words-3
 slice-aggregate-put-words-3 c = search needs
 
 put-words-requires-3 : tie.Need-put-words-requires-3
-put-words-requires-3 c κs = omega (arith, staged-lens (c .before .before .before .before .before .before .before .before .before .before .before .before .before .before .before .before))
+put-words-requires-3 c κs = omega (arith, staged-lens (entry₃ c))
 
 slice-aggregate-put-words-4 : tie.Need-slice-aggregate-put-words-4
 slice-aggregate-put-words-4 c = search needs
@@ -48,12 +72,12 @@ same-length c = search needs
 
 returns : tie.Need-returns
 returns c =
-    let third = c .before .before .before .before .before .before .before in
-    let second = third .before .before .before .before .before in
-    let first = second .before .before .before .before .before in
-    let entry = first .before .before .before .before .before .before .before in
-    put-control (entry .args .control) _ (entry .args .words .now) _ _ _ _ (entry .pre) (committed-lens entry) (staged-lens entry)
-    (first .before .before .before .phase-number .ensures)
+    let third = at-put-words3 c in
+    let second = at-put-words2 third in
+    let first = at-put-words second in
+    let start = entry first in
+    put-control (start .args .control) _ (start .args .words .now) _ _ _ _ (start .pre) (committed-lens start) (staged-lens start)
+    (at-phase-number first .phase-number .ensures)
     (first .put-words .ensures)
     (second .put-words2 .ensures)
     (third .put-words3 .ensures)

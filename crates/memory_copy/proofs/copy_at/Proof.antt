@@ -14,6 +14,10 @@ Inv-loop dst₀ at src i₀ dst i = (i ≤ length src) × ((length dst ≡ lengt
 abbrev μ-loop : tie.MeasureT-loop
 μ-loop dst₀ at src i₀ dst i = length src - i
 
+-- the places that the answers read
+abbrev entry : tie.After-shared-slice-known Inv-loop μ-loop → tie.Start Inv-loop μ-loop
+entry c = c .before .before .before
+
 loop-holds : tie.Need-loop-holds Inv-loop μ-loop
 loop-holds c = (omega arith, (refl, paste-zero (c .args .dst .now) (c .args .at) (c .args .src .now)))
 
@@ -35,11 +39,11 @@ loop-less c = omega arith
 loop-again : tie.Need-loop-again Inv-loop μ-loop
 loop-again c =
     let l = c .before .before .loop in
-    let a = c .before .before .before .args in (
+    let a = entry c .args in (
       omega arith,
       (
         length-set (l .dst) _ _ ∙ l .inv .1 .0,
-        stored-more (a .dst .now) (a .at) (a .src .now) (l .i) (getD (a .src .now) (l .i) 0) (l .dst) (c .before .before .before .pre) (omega arith) refl (l .inv .1 .1),
+        stored-more (a .dst .now) (a .at) (a .src .now) (l .i) (getD (a .src .now) (l .i) 0) (l .dst) (entry c .pre) (omega arith) refl (l .inv .1 .1),
       ),
     )
 

@@ -9,6 +9,10 @@ use borrow.Author.Needs.{needs}
 use Rattle.memory_slots.proofs.copy_region.Statement.{statement}
 use Rattle.memory_slots.proofs.copy_region.Tie as tie
 
+-- the places that the answers read
+abbrev entry : tie.After-slice-known2 → tie.Start
+entry c = c .before .before .before .before .before .before .before
+
 mul-at : tie.Need-mul-at
 mul-at c = search needs
 
@@ -31,7 +35,7 @@ same-length : tie.Need-same-length
 same-length c = search needs
 
 returns : tie.Need-returns
-returns c = let a = c .before .before .before .before .before .before .before .args in c .before .before .copy-at .ensures ∙ block-copied slotSize 4096 slot-size (a .k) (a .dst .now) (a .src .now)
+returns c = let a = entry c .args in c .before .before .copy-at .ensures ∙ block-copied slotSize 4096 slot-size (a .k) (a .dst .now) (a .src .now)
 
 pub copy-region-spec : {M : Type 1} → statement M
 copy-region-spec =

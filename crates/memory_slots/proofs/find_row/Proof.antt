@@ -17,6 +17,16 @@ Inv-loop table rows wanted r₀ r = (r ≤ rowCount) × ((length table ≡ rowCo
 abbrev μ-loop : tie.MeasureT-loop
 μ-loop table rows wanted r₀ r = rowCount - r
 
+-- the places that the answers read
+abbrev entry : tie.At-loop Inv-loop μ-loop → tie.Start Inv-loop μ-loop
+entry c = c .before .before
+
+abbrev at-loop : tie.After-is-sought Inv-loop μ-loop → tie.At-loop Inv-loop μ-loop
+at-loop c = c .before .before
+
+abbrev at-loop₂ : tie.Then1 Inv-loop μ-loop → tie.At-loop Inv-loop μ-loop
+at-loop₂ c = c .before .before .before
+
 loop-holds : tie.Need-loop-holds Inv-loop μ-loop
 loop-holds c = (omega arith, (c .before .pre, first-start _))
 
@@ -25,8 +35,8 @@ is-sought-requires c κs = search needs
 
 returns : tie.Need-returns Inv-loop μ-loop
 returns c =
-    let a = c .before .before .before .before .before .args in
-    let l = c .before .before .before .loop in
+    let a = entry (at-loop₂ c) .args in
+    let l = at-loop₂ c .loop in
     let f = sought (a .wanted) (a .table .now) (a .rows) in
     sym (first-at f rowCount (l .r) (omega arith) (sym (c .before .is-sought .ensures) ∙ c .if1 .taken) (missed f (l .r) (l .inv .1 .1)))
 
@@ -38,12 +48,12 @@ loop-less c = omega arith
 
 loop-again : tie.Need-loop-again Inv-loop μ-loop
 loop-again c =
-    let l = c .before .before .before .loop in
+    let l = at-loop (c .before) .loop in
     (omega arith, (l .inv .1 .0, first-miss _ (l .r) (l .inv .1 .1) (sym (c .before .is-sought .ensures) ∙ c .if1 .left)))
 
 returns-2 : tie.Need-returns-2 Inv-loop μ-loop
 returns-2 c =
-    let a = c .before .before .before .args in
+    let a = entry (c .before) .args in
     let l = c .before .loop in
     let e : rowCount ≡ l .r = omega arith in
     sym (ap (first (sought (a .wanted) (a .table .now) (a .rows))) e ∙ l .inv .1 .1)

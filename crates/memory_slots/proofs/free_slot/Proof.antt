@@ -4,6 +4,21 @@ use borrow.Author.Needs.{needs}
 use Rattle.memory_slots.proofs.free_slot.Statement.{statement}
 use Rattle.memory_slots.proofs.free_slot.Tie as tie
 
+-- the places that the answers read
+abbrev entry : tie.After-clear-bit2 → tie.Start
+entry c =
+    c .before .before .before .before .before .before .before .before .before .before .before .before .before .before
+    .before .before .before
+
+abbrev at-clear-name : tie.After-clear-bit2 → tie.After-clear-name
+at-clear-name c = c .before .before .before .before .before .before .before .before .before .before .before .before
+
+abbrev at-clear-region : tie.After-clear-bit2 → tie.After-clear-region
+at-clear-region c = c .before .before .before .before .before .before .before .before
+
+abbrev at-clear-region2 : tie.After-clear-bit2 → tie.After-clear-region2
+at-clear-region2 c = c .before .before .before .before
+
 clear-name-requires : tie.Need-clear-name-requires
 clear-name-requires c κs = search needs
 
@@ -43,13 +58,13 @@ same-length-3 c = search needs
 returns : tie.Need-returns
 returns c =
     λ t i h.
-    let a = c .before .before .before .before .before .before .before .before .before .before .before .before .before .before .before .before .before .args in
+    let a = entry c .args in
     λ j. record {
       sessions = record { table = t; rows = a .control .rows };
       store = record {
-        names = c .before .before .before .before .before .before .before .before .before .before .before .before .clear-name .ensures j;
-        committed = c .before .before .before .before .before .before .before .before .clear-region .ensures j;
-        staged = c .before .before .before .before .clear-region2 .ensures j;
+        names = at-clear-name c .clear-name .ensures j;
+        committed = at-clear-region c .clear-region .ensures j;
+        staged = at-clear-region2 c .clear-region2 .ensures j;
         slots = c .before .clear-bit .ensures j;
         marks = c .clear-bit2 .ensures j;
         committedLens = set (a .control .«committed_len») (a .k) 0;

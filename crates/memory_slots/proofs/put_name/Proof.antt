@@ -12,6 +12,13 @@ use borrow.Author.Needs.{needs}
 use Rattle.memory_slots.proofs.put_name.Statement.{statement}
 use Rattle.memory_slots.proofs.put_name.Tie as tie
 
+-- the places that the answers read
+abbrev entry : tie.After-slice-known3 → tie.Start
+entry c = c .before .before .before .before .before .before .before .before .before .before .before
+
+abbrev at-copy-at : tie.After-slice-known3 → tie.After-copy-at
+at-copy-at c = c .before .before .before .before .before .before
+
 mul-at : tie.Need-mul-at
 mul-at c = search needs
 
@@ -44,9 +51,9 @@ same-length c = search needs
 
 returns : tie.Need-returns
 returns c =
-    let a = c .before .before .before .before .before .before .before .before .before .before .before .args in
+    let a = entry c .args in
     c .before .before .clear-at .ensures
-    ∙ ap (λ (l : List ℕ). sets l (a .k * 32 + a .len) (replicate (32 - a .len) 0)) (c .before .before .before .before .before .before .copy-at .ensures)
+    ∙ ap (λ (l : List ℕ). sets l (a .k * 32 + a .len) (replicate (32 - a .len) 0)) (at-copy-at c .copy-at .ensures)
     ∙ block-named nameSize 32 name-size (a .k) (a .names .now) (a .start) (a .len) (a .message .now) (omega (arith, name-size)) (omega arith)
 
 pub put-name-spec : {M : Type 1} → statement M

@@ -1,19 +1,47 @@
 -- `delete`: by what the name names.
+use Prim.Native.Nat.{ℕ}
+use mathlib.Core.List.{List}
 use mathlib.Core.Path.{sym, _∙_, ap, subst}
 use lib.ListN.{length}
 use Rattle.protocol.specs.Inside.{BlobInside}
 use Rattle.protocol.specs.declared.Blob.{Blob}
-use Rattle.state.specs.State.{stateOf}
+use Rattle.state.specs.State.{State, stateOf}
 use Rattle.rules.specs.Open.{deleteBlob}
 use borrow.Author.Needs.{needs}
 use Rattle.name_delete.proofs.delete.Statement.{statement}
 use Rattle.name_delete.proofs.delete.Tie as tie
 
+-- the state at entry, with the buffers that are not lent
+abbrev whole : tie.Start → List ℕ → List ℕ → State
+whole c image hash = let a = c .args in stateOf (a .control) (a .table .now) (a .names .now) (a .committed .now) (a .staged .now) image hash
+
+-- the places that the answers read
+abbrev entry : tie.After-blob → tie.Start
+entry c = c .before .before .before .before .before .before .before
+
+abbrev entry₂ : tie.After-enum-told → tie.Start
+entry₂ c = c .before .before .before .before .before .before .before
+
+abbrev entry₃ : tie.After-enum-told2 → tie.Start
+entry₃ c = c .before .before .before .before .before .before .before
+
+abbrev entry₄ : tie.After-enum-told3 → tie.Start
+entry₄ c = c .before .before .before .before .before .before .before
+
+abbrev at-blob : tie.After-delete-store-arg3 → tie.After-blob
+at-blob c = c .before .before .before .before
+
+abbrev at-blob₂ : tie.After-slice-known6 → tie.After-blob
+at-blob₂ c = c .before .before .before .before .before .before .before .before .before .before .before
+
+abbrev at-delete-store : tie.After-slice-known6 → tie.After-delete-store
+at-delete-store c = c .before .before .before .before .before .before
+
 enum-known-blob : tie.Need-enum-known-blob
 enum-known-blob c = search needs
 
 delete-store-requires : tie.Need-delete-store-requires
-delete-store-requires c κs = (subst (BlobInside (c .before .before .before .before .before .before .before .before .before .before .before .args .message .now)) (c .before .before .before .before .blob .given .1) (c .before .before .before .before .before .before .before .before .before .before .before .pre .0) .ends, search needs)
+delete-store-requires c κs = (subst (BlobInside (entry (at-blob c) .args .message .now)) (at-blob c .blob .given .1) (entry (at-blob c) .pre .0) .ends, search needs)
 
 enum-told : tie.Need-enum-told
 enum-told c = search needs
@@ -36,20 +64,24 @@ same-length-3 c = search needs
 returns : tie.Need-returns
 returns c =
     λ i h x.
-    let a = c .before .before .before .before .before .before .before .before .before .before .before .before .before .before .before .before .before .before .args in
-    c .before .before .before .before .before .before .delete-store .ensures i h x ∙ ap (λ (b : Blob). deleteBlob b (a .message .now) (stateOf (a .control) (a .table .now) (a .names .now) (a .committed .now) (a .staged .now) i h)) (sym (c .before .before .before .before .before .before .before .before .before .before .before .blob .given .1))
+    let start = entry (at-blob₂ c) in
+    let a = start .args in
+    at-delete-store c .delete-store .ensures i h x ∙ ap (λ (b : Blob). deleteBlob b (a .message .now) (whole start i h)) (sym (at-blob₂ c .blob .given .1))
 
 returns-2 : tie.Need-returns-2
 unfolding deleteBlob
-returns-2 c = λ i h _. let a = c .before .before .before .before .before .before .before .args in ap (λ (b : Blob). deleteBlob b (a .message .now) (stateOf (a .control) (a .table .now) (a .names .now) (a .committed .now) (a .staged .now) i h)) (sym (c .enum-told .given .1))
+returns-2 c =
+    λ i h _. let start = entry₂ c in let a = start .args in ap (λ (b : Blob). deleteBlob b (a .message .now) (whole start i h)) (sym (c .enum-told .given .1))
 
 returns-3 : tie.Need-returns-3
 unfolding deleteBlob
-returns-3 c = λ i h _. let a = c .before .before .before .before .before .before .before .args in ap (λ (b : Blob). deleteBlob b (a .message .now) (stateOf (a .control) (a .table .now) (a .names .now) (a .committed .now) (a .staged .now) i h)) (sym (c .enum-told2 .given .1))
+returns-3 c =
+    λ i h _. let start = entry₃ c in let a = start .args in ap (λ (b : Blob). deleteBlob b (a .message .now) (whole start i h)) (sym (c .enum-told2 .given .1))
 
 returns-4 : tie.Need-returns-4
 unfolding deleteBlob
-returns-4 c = λ i h _. let a = c .before .before .before .before .before .before .before .args in ap (λ (b : Blob). deleteBlob b (a .message .now) (stateOf (a .control) (a .table .now) (a .names .now) (a .committed .now) (a .staged .now) i h)) (sym (c .enum-told3 .given .1))
+returns-4 c =
+    λ i h _. let start = entry₄ c in let a = start .args in ap (λ (b : Blob). deleteBlob b (a .message .now) (whole start i h)) (sym (c .enum-told3 .given .1))
 
 pub delete-spec : {M : Type 1} → statement M
 delete-spec =

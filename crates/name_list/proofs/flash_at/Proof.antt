@@ -12,6 +12,13 @@ use borrow.Author.Needs.{needs}
 use Rattle.name_list.proofs.flash_at.Statement.{statement}
 use Rattle.name_list.proofs.flash_at.Tie as tie
 
+-- the places that the answers read
+abbrev entry : tie.After-kind-of → tie.Start
+entry c = c .before .before .before
+
+abbrev entry₂ : tie.Else1 → tie.Start
+entry₂ c = c .before .before
+
 flash-count-requires : tie.Need-flash-count-requires
 flash-count-requires c κs = search needs
 
@@ -28,20 +35,21 @@ kind-of-requires : tie.Need-kind-of-requires
 kind-of-requires c κs = search needs
 
 returns : tie.Need-returns
-returns c = let a = c .before .before .before .args in
+returns c = let a = entry c .args in
     let e : ltb (a .i) (flashCount (a .phase) - 1) ≡ true = lt-ltb (a .i) (flashCount (a .phase) - 1) (omega (arith, c .before .if1 .taken, c .before .before .flash-count .ensures)) in
     rw e (ap Flash (c .kind-of .ensures))
 
 returns-2 : tie.Need-returns-2
-returns-2 c = let a = c .before .before .before .args in
+returns-2 c = let a = entry₂ (c .before) .args in
     let e : ltb (a .i) (flashCount (a .phase) - 1) ≡ false = le-ltb (a .i) (flashCount (a .phase) - 1) (omega (arith, c .before .if1 .left, c .before .before .flash-count .ensures)) in
     let f : eqb (a .i) (flashCount (a .phase) - 1) ≡ true = eq-eqb (a .i) (flashCount (a .phase) - 1) (omega (arith, c .if2 .taken, c .before .before .flash-count .ensures)) in
     rw (e, f)
 
 returns-3 : tie.Need-returns-3
-returns-3 c = let a = c .before .before .before .args in
+returns-3 c = let a = entry₂ (c .before) .args in
     let e : ltb (a .i) (flashCount (a .phase) - 1) ≡ false = le-ltb (a .i) (flashCount (a .phase) - 1) (omega (arith, c .before .if1 .left, c .before .before .flash-count .ensures)) in
-    let f : eqb (a .i) (flashCount (a .phase) - 1) ≡ false = ne-eqb (a .i) (flashCount (a .phase) - 1) (λ (q : a .i ≡ flashCount (a .phase) - 1). c .if2 .left (omega (arith, q, c .before .before .flash-count .ensures))) in
+    let f : eqb (a .i) (flashCount (a .phase) - 1) ≡ false = ne-eqb (a .i) (flashCount (a .phase) - 1)
+    (λ (q : a .i ≡ flashCount (a .phase) - 1). c .if2 .left (omega (arith, q, c .before .before .flash-count .ensures))) in
     rw (e, f)
 
 pub flash-at-spec : {M : Type 1} → statement M

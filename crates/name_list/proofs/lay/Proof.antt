@@ -14,6 +14,10 @@ use borrow.Author.Needs.{needs}
 use Rattle.name_list.proofs.lay.Statement.{statement}
 use Rattle.name_list.proofs.lay.Tie as tie
 
+-- the places that the answers read
+abbrev entry : tie.After-slice-known2 → tie.Start
+entry c = c .before .before .before .before .before .before
+
 copy-at-requires : tie.Need-copy-at-requires
 copy-at-requires c κs = search (needs, name-size)
 
@@ -21,7 +25,7 @@ add-answer : tie.Need-add-answer
 add-answer c = search needs
 
 slice-write-answer : tie.Need-slice-write-answer
-slice-write-answer c = omega (arith, name-size, ap length (c .before .before .copy-at .ensures) ∙ length-sets (c .before .before .before .before .before .before .args .answer .now) fieldsAt (c .before .before .before .before .before .before .args .name .now))
+slice-write-answer c = omega (arith, name-size, ap length (c .before .before .copy-at .ensures) ∙ length-sets (entry c .args .answer .now) fieldsAt (entry c .args .name .now))
 
 add-t7 : tie.Need-add-t7
 add-t7 c = search needs
@@ -30,14 +34,15 @@ same-length : tie.Need-same-length
 same-length c = search needs
 
 returns : tie.Need-returns
-returns c = let a = c .before .before .before .before .before .before .args in
+returns c = let a = entry c .args in
     let laid =
     ap (λ (l : List ℕ). set l (fieldsAt + length (a .name .now)) 0) (c .before .before .copy-at .ensures) ∙ name-laid (a .answer .now) (a .name .now) fieldsAt
     in
     record {
-      says = ap (λ (l : List ℕ). reply (part fieldsAt (length (a .name .now) + 1) l)) laid ∙ ap reply (name-read (a .answer .now) (a .name .now) fieldsAt (omega (arith, name-size, c .before .before .before .before .before .before .pre .0, c .before .before .before .before .before .before .pre .1)));
+      says = ap (λ (l : List ℕ). reply (part fieldsAt (length (a .name .now) + 1) l)) laid ∙ ap reply
+          (name-read (a .answer .now) (a .name .now) fieldsAt (omega (arith, name-size, entry c .pre .0, entry c .pre .1)));
       lays = laid;
-      short = omega (arith, name-size, c .before .before .before .before .before .before .pre .0);
+      short = omega (arith, name-size, entry c .pre .0);
     }
 
 pub lay-spec : {M : Type 1} → statement M

@@ -6,6 +6,37 @@ use borrow.Author.Needs.{needs}
 use Rattle.name_list.proofs.lay_flash.Statement.{statement}
 use Rattle.name_list.proofs.lay_flash.Tie as tie
 
+-- the places that the answers read
+abbrev entry : tie.After-lay-arg2 → tie.Start
+entry c = c .before .before .before .before .before
+
+abbrev entry₂ : tie.After-lay-arg4 → tie.Start
+entry₂ c = c .before .before .before .before .before
+
+abbrev entry₃ : tie.After-lay-arg6 → tie.Start
+entry₃ c = c .before .before .before .before .before
+
+abbrev entry₄ : tie.After-lay-arg8 → tie.Start
+entry₄ c = c .before .before .before .before .before
+
+abbrev entry₅ : tie.After-lay-arg10 → tie.Start
+entry₅ c = c .before .before .before .before .before
+
+abbrev at-enum-told : tie.After-slice-known2 → tie.After-enum-told
+at-enum-told c = c .before .before .before .before .before
+
+abbrev at-enum-told2 : tie.After-slice-known3 → tie.After-enum-told2
+at-enum-told2 c = c .before .before .before .before .before
+
+abbrev at-enum-told3 : tie.After-slice-known4 → tie.After-enum-told3
+at-enum-told3 c = c .before .before .before .before .before
+
+abbrev at-enum-told4 : tie.After-slice-known5 → tie.After-enum-told4
+at-enum-told4 c = c .before .before .before .before .before
+
+abbrev at-enum-told5 : tie.After-slice-known6 → tie.After-enum-told5
+at-enum-told5 c = c .before .before .before .before .before
+
 enum-told : tie.Need-enum-told
 enum-told c = search needs
 
@@ -13,7 +44,7 @@ slice-aggregate-lay : tie.Need-slice-aggregate-lay
 slice-aggregate-lay c = search needs
 
 lay-requires : tie.Need-lay-requires
-lay-requires c κs = (omega (arith, name-size), c .before .before .before .before .before .pre)
+lay-requires c κs = (omega (arith, name-size), entry c .pre)
 
 enum-told-2 : tie.Need-enum-told-2
 enum-told-2 c = search needs
@@ -22,7 +53,7 @@ slice-aggregate-lay-2 : tie.Need-slice-aggregate-lay-2
 slice-aggregate-lay-2 c = search needs
 
 lay-requires-2 : tie.Need-lay-requires-2
-lay-requires-2 c κs = (omega (arith, name-size), c .before .before .before .before .before .pre)
+lay-requires-2 c κs = (omega (arith, name-size), entry₂ c .pre)
 
 enum-told-3 : tie.Need-enum-told-3
 enum-told-3 c = search needs
@@ -31,7 +62,7 @@ slice-aggregate-lay-3 : tie.Need-slice-aggregate-lay-3
 slice-aggregate-lay-3 c = search needs
 
 lay-requires-3 : tie.Need-lay-requires-3
-lay-requires-3 c κs = (omega (arith, name-size), c .before .before .before .before .before .pre)
+lay-requires-3 c κs = (omega (arith, name-size), entry₃ c .pre)
 
 enum-told-4 : tie.Need-enum-told-4
 enum-told-4 c = search needs
@@ -40,7 +71,7 @@ slice-aggregate-lay-4 : tie.Need-slice-aggregate-lay-4
 slice-aggregate-lay-4 c = search needs
 
 lay-requires-4 : tie.Need-lay-requires-4
-lay-requires-4 c κs = (omega (arith, name-size), c .before .before .before .before .before .pre)
+lay-requires-4 c κs = (omega (arith, name-size), entry₄ c .pre)
 
 enum-told-5 : tie.Need-enum-told-5
 enum-told-5 c = search needs
@@ -49,42 +80,42 @@ slice-aggregate-lay-5 : tie.Need-slice-aggregate-lay-5
 slice-aggregate-lay-5 c = search needs
 
 lay-requires-5 : tie.Need-lay-requires-5
-lay-requires-5 c κs = (omega (arith, name-size), c .before .before .before .before .before .pre)
+lay-requires-5 c κs = (omega (arith, name-size), entry₅ c .pre)
 
 same-length : tie.Need-same-length
 same-length c = search needs
 
 returns : tie.Need-returns
 unfolding flashFolder flashWord
-returns c = rw (c .before .before .before .before .before .enum-told .given .1) (c .before .before .lay .ensures)
+returns c = rw (at-enum-told c .enum-told .given .1) (c .before .before .lay .ensures)
 
 same-length-2 : tie.Need-same-length-2
 same-length-2 c = search needs
 
 returns-2 : tie.Need-returns-2
 unfolding flashFolder flashWord
-returns-2 c = rw (c .before .before .before .before .before .enum-told2 .given .1) (c .before .before .lay2 .ensures)
+returns-2 c = rw (at-enum-told2 c .enum-told2 .given .1) (c .before .before .lay2 .ensures)
 
 same-length-3 : tie.Need-same-length-3
 same-length-3 c = search needs
 
 returns-3 : tie.Need-returns-3
 unfolding flashFolder flashWord
-returns-3 c = rw (c .before .before .before .before .before .enum-told3 .given .1) (c .before .before .lay3 .ensures)
+returns-3 c = rw (at-enum-told3 c .enum-told3 .given .1) (c .before .before .lay3 .ensures)
 
 same-length-4 : tie.Need-same-length-4
 same-length-4 c = search needs
 
 returns-4 : tie.Need-returns-4
 unfolding flashFolder flashWord
-returns-4 c = rw (c .before .before .before .before .before .enum-told4 .given .1) (c .before .before .lay4 .ensures)
+returns-4 c = rw (at-enum-told4 c .enum-told4 .given .1) (c .before .before .lay4 .ensures)
 
 same-length-5 : tie.Need-same-length-5
 same-length-5 c = search needs
 
 returns-5 : tie.Need-returns-5
 unfolding flashFolder flashWord
-returns-5 c = rw (c .before .before .before .before .before .enum-told5 .given .1) (c .before .before .lay5 .ensures)
+returns-5 c = rw (at-enum-told5 c .enum-told5 .given .1) (c .before .before .lay5 .ensures)
 
 pub lay-flash-spec : {M : Type 1} → statement M
 lay-flash-spec =

@@ -12,6 +12,13 @@ use borrow.Author.Needs.{needs}
 use Rattle.name_list.proofs.lay_slot.Statement.{statement}
 use Rattle.name_list.proofs.lay_slot.Tie as tie
 
+-- the places that the answers read
+abbrev entry : tie.After-first-zero → tie.Start
+entry c = c .before .before .before .before
+
+abbrev at-first-zero : tie.After-slice-known2 → tie.After-first-zero
+at-first-zero c = c .before .before .before .before .before
+
 mul-at : tie.Need-mul-at
 mul-at c = search needs
 
@@ -40,22 +47,28 @@ part-lay-start : tie.Need-part-lay-start
 part-lay-start c = search needs
 
 part-lay-end : tie.Need-part-lay-end
-part-lay-end c = let a = c .before .before .before .before .args in
+part-lay-end c = let a = entry c .args in
     omega (arith, name-size, c .first-zero .ensures .1, front-short nameSize 32 name-size (a .k) (a .names .now) 32 (omega (arith, name-size)))
 
 lay-requires : tie.Need-lay-requires
-lay-requires c κs = let a = c .before .before .before .before .before .before .args in
-    let z : c .before .before .first-zero .result ≤ nameSize = omega (arith, c .before .before .first-zero .ensures .1, front-short nameSize 32 name-size (a .k) (a .names .now) 32 (omega (arith, name-size))) in
-    (front-short nameSize 32 name-size (a .k) (a .names .now) (c .before .before .first-zero .result) z, c .before .before .before .before .before .before .pre .1 .1)
+lay-requires c κs = let a = entry (c .before .before) .args in
+    let z : c .before .before .first-zero .result ≤ nameSize = omega (
+      arith,
+      c .before .before .first-zero .ensures .1,
+      front-short nameSize 32 name-size (a .k) (a .names .now) 32
+          (omega (arith, name-size)),
+    ) in
+    (front-short nameSize 32 name-size (a .k) (a .names .now) (c .before .before .first-zero .result) z, entry (c .before .before) .pre .1 .1)
 
 same-length : tie.Need-same-length
 same-length c = search needs
 
 returns : tie.Need-returns
-returns c = let a = c .before .before .before .before .before .before .before .before .before .args in
+returns c = let a = entry (at-first-zero c) .args in
     let n = a .names .now in
-    let z : c .before .before .before .before .before .first-zero .result ≤ nameSize = omega (arith, c .before .before .before .before .before .first-zero .ensures .1, front-short nameSize 32 name-size (a .k) n 32 (omega (arith, name-size))) in
-    rw (← front-lent nameSize 32 name-size (a .k) n (c .before .before .before .before .before .first-zero .result) (c .before .before .before .before .before .first-zero .ensures .0 ∙ ap firstZero (field-lent nameSize 32 name-size (a .k) n)) z) (c .before .before .lay .ensures)
+    let z : at-first-zero c .first-zero .result ≤ nameSize = omega (arith, at-first-zero c .first-zero .ensures .1, front-short nameSize 32 name-size (a .k) n 32 (omega (arith, name-size))) in
+    rw (← front-lent nameSize 32 name-size (a .k) n (at-first-zero c .first-zero .result)
+    (at-first-zero c .first-zero .ensures .0 ∙ ap firstZero (field-lent nameSize 32 name-size (a .k) n)) z) (c .before .before .lay .ensures)
 
 pub lay-slot-spec : {M : Type 1} → statement M
 lay-slot-spec =

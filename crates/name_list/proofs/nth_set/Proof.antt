@@ -20,6 +20,13 @@ Inv-loop mask i seen₀ k₀ seen k = (k ≤ 15) × ((seen ≡ onesIn k mask) ×
 abbrev μ-loop : tie.MeasureT-loop
 μ-loop mask i seen₀ k₀ seen k = 15 - k
 
+-- the places that the answers read
+abbrev at-loop : tie.After-has Inv-loop μ-loop → tie.At-loop Inv-loop μ-loop
+at-loop c = c .before .before
+
+abbrev at-loop₂ : tie.Joined1 Inv-loop μ-loop → tie.At-loop Inv-loop μ-loop
+at-loop₂ c = c .before .before .before
+
 loop-holds : tie.Need-loop-holds Inv-loop μ-loop
 loop-holds c = (omega arith, (sym (ones-start (c .args .mask)), omega arith))
 
@@ -30,7 +37,8 @@ has-requires : tie.Need-has-requires Inv-loop μ-loop
 has-requires c κs = search needs
 
 returns : tie.Need-returns Inv-loop μ-loop
-returns c = record { low = omega arith; is-set = eqb-true _ _ (sym (c .before .before .has .ensures) ∙ c .before .if1 .taken); below = sym (c .before .before .before .before .loop .inv .1 .0) ∙ c .if2 .taken }
+returns c =
+    record { low = omega arith; is-set = eqb-true _ _ (sym (c .before .before .has .ensures) ∙ c .before .if1 .taken); below = sym (at-loop (c .before .before) .loop .inv .1 .0) ∙ c .if2 .taken }
 
 add-seen : tie.Need-add-seen Inv-loop μ-loop
 add-seen c = search needs
@@ -42,8 +50,8 @@ loop-less : tie.Need-loop-less Inv-loop μ-loop
 loop-less c = search needs
 
 loop-again : tie.Need-loop-again Inv-loop μ-loop
-loop-again c = let k = c .before .before .before .loop .k in
-    let m = c .before .before .before .before .args .mask in
+loop-again c = let k = at-loop₂ c .loop .k in
+    let m = at-loop₂ c .before .args .mask in
     let e : onesIn (k + 1) m ≡ onesIn k m + bit k m = rw add-one (ones-more k m) in
     ⊎-elim
     (λ w. let b : bit k m ≡ 1 = eqb-true _ _ (sym (c .before .has .ensures) ∙ w .0 .taken) in (omega arith, (omega arith, omega arith)))

@@ -13,6 +13,16 @@ use borrow.Author.Needs.{needs}
 use Rattle.open_steps.proofs.open_row.Statement.{statement}
 use Rattle.open_steps.proofs.open_row.Tie as tie
 
+-- the places that the answers read
+abbrev entry : tie.After-next-id → tie.Start
+entry c = c .before .before .before .before .before .before .before .before .before .before
+
+abbrev at-word-with : tie.After-next-id → tie.After-word-with
+at-word-with c = c .before .before .before .before .before .before
+
+abbrev at-write-row : tie.After-next-id → tie.After-write-row
+at-write-row c = c .before .before .before .before
+
 fresh-id-requires : tie.Need-fresh-id-requires
 fresh-id-requires c κs = search needs
 
@@ -38,16 +48,16 @@ returns : tie.Need-returns
 unfolding rowOpened
 returns c =
     λ n d g i h _.
-    let a = c .before .before .before .before .before .before .before .before .before .before .args in
+    let a = entry c .args in
     let v = a .control in
     let s = stateOf v (a .table .now) n d g i h in
-    let id = c .before .before .before .before .before .before .before .fresh-id .result in
-    let row = c .before .before .before .before .write-row .ensures ∙ ap (λ (w : ℕ). block rowWords (a .r) .put (id ∷ a .blob ∷ w ∷ a .clock ∷ []) (a .table .now)) (c .before .before .before .before .before .before .word-with .ensures) in
+    let id = at-word-with c .before .fresh-id .result in
+    let row = at-write-row c .write-row .ensures ∙ ap (λ (w : ℕ). block rowWords (a .r) .put (id ∷ a .blob ∷ w ∷ a .clock ∷ []) (a .table .now)) (at-word-with c .word-with .ensures) in
     (λ j. (
       reply (bytesOf 2 id),
       record { sessions = record { table = row j; rows = c .before .set-bit .ensures j }; store = s .store; flashGroup = s .flashGroup; next = c .next-id .ensures .0 j; lastSweep = v .«last_sweep» },
     ))
-    ∙ ap (λ (x : ℕ). (reply (bytesOf 2 x), withNext (after x) (inRow (a .r) .put (newRow x (a .blob) (a .flags) (a .clean) (a .clock)) s))) (c .before .before .before .before .before .before .before .fresh-id .ensures .0 s)
+    ∙ ap (λ (x : ℕ). (reply (bytesOf 2 x), withNext (after x) (inRow (a .r) .put (newRow x (a .blob) (a .flags) (a .clean) (a .clock)) s))) (at-word-with c .before .fresh-id .ensures .0 s)
 
 pub open-row-spec : {M : Type 1} → statement M
 open-row-spec =

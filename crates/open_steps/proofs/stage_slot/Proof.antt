@@ -1,15 +1,35 @@
 -- `stage_slot`: the slot as it is, or with its committed region and length staged.
-use Rattle.state.specs.State.{stateOf}
+use Prim.Native.Nat.{ℕ}
+use mathlib.Core.List.{List}
+use Rattle.state.specs.State.{State, stateOf}
 use Rattle.open_steps.specs.Laws.{held-read, held-written}
 use borrow.Author.Needs.{needs}
 use Rattle.open_steps.proofs.stage_slot.Statement.{statement}
 use Rattle.open_steps.proofs.stage_slot.Tie as tie
 
+-- the state at entry, with the buffers that are not lent
+abbrev whole : tie.Start → List ℕ → List ℕ → List ℕ → List ℕ → State
+whole c table names image hash = let a = c .args in stateOf (a .t3) table names (a .committed .now) (a .staged .now) image hash
+
+-- the places that the answers read
+abbrev entry : tie.Then1 → tie.Start
+entry c = c .before .before .before .before
+
+abbrev entry₂ : tie.After-next → tie.Start
+entry₂ c = c .before .before .before .before .before .before .before .before .before
+
+abbrev in-else1 : tie.After-next → tie.Else1
+in-else1 c = c .before .before .before .before .before
+
+abbrev at-copy-region : tie.After-next → tie.After-copy-region
+at-copy-region c = c .before .before .before
+
 returns : tie.Need-returns
 returns c =
     λ t n i h.
-    let a = c .before .before .before .before .args in
-    held-read (a .k) (a .flags) (stateOf (a .t3) t n (a .committed .now) (a .staged .now) i h) (c .if1 .taken)
+    let start = entry c in
+    let a = start .args in
+    held-read (a .k) (a .flags) (whole start t n i h) (c .if1 .taken)
 
 copy-region-requires : tie.Need-copy-region-requires
 copy-region-requires c κs = search needs
@@ -32,8 +52,9 @@ same-length c = search needs
 returns-2 : tie.Need-returns-2
 returns-2 c =
     λ t n i h.
-    let a = c .before .before .before .before .before .before .before .before .before .args in
-    held-written (a .k) (a .flags) (stateOf (a .t3) t n (a .committed .now) (a .staged .now) i h) (c .before .before .before .before .before .if1 .left) _ (c .before .before .before .copy-region .ensures)
+    let start = entry₂ c in
+    let a = start .args in
+    held-written (a .k) (a .flags) (whole start t n i h) (in-else1 c .if1 .left) _ (at-copy-region c .copy-region .ensures)
 
 pub stage-slot-spec : {M : Type 1} → statement M
 stage-slot-spec =

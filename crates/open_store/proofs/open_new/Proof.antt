@@ -1,7 +1,8 @@
 -- `open_new`: no free row, no free slot, or the slot and then the row are taken.
+use mathlib.Core.List.{List}
 use mathlib.Core.Path.{_≡_, sym, _∙_, ap}
 use native.Mathlib.Omega.{arith}
-use Prim.Native.Nat.{_<_}
+use Prim.Native.Nat.{ℕ, _<_}
 use Rattle.laws.specs.Ranges.{part}
 use Rattle.laws.specs.Find.{found}
 use Rattle.laws.specs.Masks.{clear}
@@ -15,6 +16,47 @@ use borrow.Author.Needs.{needs}
 use Rattle.open_store.proofs.open_new.Statement.{statement}
 use Rattle.open_store.proofs.open_new.Tie as tie
 
+-- the state at entry, with the buffers that are not lent
+abbrev whole : tie.Start → List ℕ → List ℕ → List ℕ → List ℕ → State
+whole c committed staged image hash = let a = c .args in stateOf (a .control) (a .table .now) (a .names .now) committed staged image hash
+
+-- the places that the answers read
+abbrev entry : tie.After-enum-told → tie.Start
+entry c = c .before .before .before .before .before .before
+
+abbrev entry₂ : tie.After-lowest-free2 → tie.Start
+entry₂ c = c .before .before .before .before .before .before .before .before
+
+abbrev at-lowest-free : tie.After-lowest-free2 → tie.After-lowest-free
+at-lowest-free c = c .before .before .before .before
+
+abbrev at-r : tie.After-lowest-free2 → tie.After-r
+at-r c = c .before .before
+
+abbrev at-lowest-free2 : tie.After-new-slot-arg → tie.After-lowest-free2
+at-lowest-free2 c = c .before .before .before .before
+
+abbrev at-lowest-free2₂ : tie.After-slice-known3 → tie.After-lowest-free2
+at-lowest-free2₂ c = c .before .before .before .before .before .before .before
+
+abbrev at-lowest-free2₃ : tie.After-open-row-arg → tie.After-lowest-free2
+at-lowest-free2₃ c = c .before .before .before .before .before .before .before .before
+
+abbrev at-lowest-free2₄ : tie.After-slice-known4 → tie.After-lowest-free2
+at-lowest-free2₄ c = c .before .before .before .before .before .before .before .before .before .before .before
+
+abbrev at-k : tie.After-slice-known3 → tie.After-k
+at-k c = c .before .before .before .before .before
+
+abbrev at-k₂ : tie.After-slice-known4 → tie.After-k
+at-k₂ c = c .before .before .before .before .before .before .before .before .before
+
+abbrev at-new-slot : tie.After-open-row-arg → tie.After-new-slot
+at-new-slot c = c .before .before .before
+
+abbrev at-new-slot₂ : tie.After-slice-known4 → tie.After-new-slot
+at-new-slot₂ c = c .before .before .before .before .before .before
+
 lowest-free-requires : tie.Need-lowest-free-requires
 lowest-free-requires c κs = search needs
 
@@ -27,8 +69,10 @@ enum-told c = search needs
 returns : tie.Need-returns
 returns c =
     λ d g i h _ _.
-    let a = c .before .before .before .before .before .before .args in
-    new-no-row (part (a .start) (a .len) (a .message .now)) (a .flags) (a .clock) (stateOf (a .control) (a .table .now) (a .names .now) d g i h) (sym (c .before .before .lowest-free .ensures) ∙ ap optionOf (c .enum-told .given .1))
+    let start = entry c in
+    let a = start .args in
+    new-no-row (part (a .start) (a .len) (a .message .now)) (a .flags) (a .clock) (whole start d g i h)
+    (sym (c .before .before .lowest-free .ensures) ∙ ap optionOf (c .enum-told .given .1))
 
 lowest-free-requires-2 : tie.Need-lowest-free-requires-2
 lowest-free-requires-2 c κs = search needs
@@ -42,22 +86,37 @@ enum-told-2 c = search needs
 returns-2 : tie.Need-returns-2
 returns-2 c =
     λ d g i h _ _.
-    let a = c .before .before .before .before .before .before .before .before .before .before .args in
-    new-no-slot (part (a .start) (a .len) (a .message .now)) (a .flags) (a .clock) (stateOf (a .control) (a .table .now) (a .names .now) d g i h) (c .before .before .before .before .r .given .0 .0) (sym (c .before .before .before .before .before .before .lowest-free .ensures) ∙ ap optionOf (c .before .before .before .before .r .given .1)) (sym (c .before .before .lowest-free2 .ensures) ∙ ap optionOf (c .enum-told2 .given .1))
+    let start = entry₂ (c .before .before) in
+    let a = start .args in
+    new-no-slot (part (a .start) (a .len) (a .message .now)) (a .flags) (a .clock) (whole start d g i h)
+    (at-r (c .before .before) .r .given .0 .0) (sym (at-lowest-free (c .before .before) .lowest-free .ensures) ∙ ap optionOf (at-r (c .before .before) .r .given .1))
+    (sym (c .before .before .lowest-free2 .ensures) ∙ ap optionOf (c .enum-told2 .given .1))
 
 new-slot-requires : tie.Need-new-slot-requires
 new-slot-requires c κs =
-    let a = c .before .before .before .before .before .before .before .before .before .before .before .before .args in
-    ((found (clear (a .control .slots)) slotCount (c .before .before .k .given .0 .0) (sym (c .before .before .before .before .lowest-free2 .ensures) ∙ ap optionOf (c .before .before .k .given .1)) .low), (c .before .before .before .before .before .before .before .before .before .before .before .before .pre .0, c .before .before .before .before .before .before .before .before .before .before .before .before .pre .1 .1 .1))
+    let lowest-free2 = at-lowest-free2 c in
+    let start = entry₂ lowest-free2 in
+    let a = start .args in (
+      (found (clear (a .control .slots)) slotCount (c .before .before .k .given .0 .0)
+          (sym (lowest-free2 .lowest-free2 .ensures) ∙ ap optionOf (c .before .before .k .given .1)) .low),
+      (start .pre .0, start .pre .1 .1 .1),
+    )
 
 cast-open-row : tie.Need-cast-open-row
-cast-open-row c = let a = c .before .before .before .before .before .before .before .before .before .before .before .before .before .before .before .args in let l : c .before .before .before .before .before .k .given .0 .0 < slotCount = (found (clear (a .control .slots)) slotCount (c .before .before .before .before .before .k .given .0 .0) (sym (c .before .before .before .before .before .before .before .lowest-free2 .ensures) ∙ ap optionOf (c .before .before .before .before .before .k .given .1)) .low) in omega arith
+cast-open-row c =
+    let a = entry₂ (at-lowest-free2₂ c) .args in
+    let l : at-k c .k .given .0 .0 < slotCount = (found (clear (a .control .slots)) slotCount (at-k c .k .given .0 .0)
+    (sym (at-lowest-free2₂ c .lowest-free2 .ensures) ∙ ap optionOf (at-k c .k .given .1)) .low) in
+    omega arith
 
 open-row-requires : tie.Need-open-row-requires
 open-row-requires c κs =
-    let a = c .before .before .before .before .before .before .before .before .before .before .before .before .before .before .before .before .args in
-    let e : c .before .before .before .new-slot .result .next ≡ a .control .next = ap (λ (s : State). s .next) (c .before .before .before .new-slot .ensures [] [] [] [] []) in
-    ((found (clear (a .control .rows)) slotCount (c .before .before .before .before .before .before .before .before .before .before .r .given .0 .0) (sym (c .before .before .before .before .before .before .before .before .before .before .before .before .lowest-free .ensures) ∙ ap optionOf (c .before .before .before .before .before .before .before .before .before .before .r .given .1)) .low), (omega arith, (omega (arith, e, c .before .before .before .before .before .before .before .before .before .before .before .before .before .before .before .before .pre .1 .0), c .before .before .before .before .before .before .before .before .before .before .before .before .before .before .before .before .pre .1 .1 .0)))
+    let a = entry₂ (at-lowest-free2₃ c) .args in
+    let e : at-new-slot c .new-slot .result .next ≡ a .control .next = ap (λ (s : State). s .next) (at-new-slot c .new-slot .ensures [] [] [] [] []) in (
+      (found (clear (a .control .rows)) slotCount (at-r (at-lowest-free2₃ c) .r .given .0 .0) (sym (at-lowest-free (at-lowest-free2₃ c) .lowest-free .ensures) ∙ ap optionOf
+          (at-r (at-lowest-free2₃ c) .r .given .1)) .low),
+      (omega arith, (omega (arith, e, entry₂ (at-lowest-free2₃ c) .pre .1 .0), entry₂ (at-lowest-free2₃ c) .pre .1 .1 .0)),
+    )
 
 same-length : tie.Need-same-length
 same-length c = search needs
@@ -67,11 +126,15 @@ same-length-2 c = search needs
 
 returns-3 : tie.Need-returns-3
 returns-3 c =
+    let lowest-free2 = at-lowest-free2₄ c in
     λ d g i h x z.
-    let a = c .before .before .before .before .before .before .before .before .before .before .before .before .before .before .before .before .before .before .before .args in
-    c .before .before .open-row .ensures (c .before .before .before .before .before .before .new-slot .last .1 .1 .1 .1 .1 .0) d g i h x
-    ∙ ap (rowOpened (c .before .before .before .before .before .before .before .before .before .before .before .before .before .r .given .0 .0) (c .before .before .before .before .before .before .before .before .before .k .given .0 .0) (a .flags) 0 (a .clock)) (c .before .before .before .before .before .before .new-slot .ensures (a .table .now) d g i h)
-    ∙ new-ok (part (a .start) (a .len) (a .message .now)) (a .flags) (a .clock) (stateOf (a .control) (a .table .now) (a .names .now) d g i h) (c .before .before .before .before .before .before .before .before .before .before .before .before .before .r .given .0 .0) (sym (c .before .before .before .before .before .before .before .before .before .before .before .before .before .before .before .lowest-free .ensures) ∙ ap optionOf (c .before .before .before .before .before .before .before .before .before .before .before .before .before .r .given .1)) (c .before .before .before .before .before .before .before .before .before .k .given .0 .0) (sym (c .before .before .before .before .before .before .before .before .before .before .before .lowest-free2 .ensures) ∙ ap optionOf (c .before .before .before .before .before .before .before .before .before .k .given .1)) z
+    let start = entry₂ lowest-free2 in
+    let a = start .args in
+    c .before .before .open-row .ensures (at-new-slot₂ c .new-slot .last .1 .1 .1 .1 .1 .0) d g i h x
+    ∙ ap (rowOpened (at-r lowest-free2 .r .given .0 .0) (at-k₂ c .k .given .0 .0) (a .flags) 0 (a .clock)) (at-new-slot₂ c .new-slot .ensures (a .table .now) d g i h)
+    ∙ new-ok (part (a .start) (a .len) (a .message .now)) (a .flags) (a .clock) (whole start d g i h) (at-r lowest-free2 .r .given .0 .0)
+    (sym (at-lowest-free lowest-free2 .lowest-free .ensures) ∙ ap optionOf (at-r lowest-free2 .r .given .1)) (at-k₂ c .k .given .0 .0)
+    (sym (lowest-free2 .lowest-free2 .ensures) ∙ ap optionOf (at-k₂ c .k .given .1)) z
 
 pub open-new-spec : {M : Type 1} → statement M
 open-new-spec =

@@ -17,6 +17,16 @@ Inv-loop names slots message start len k₀ k = (k ≤ slotCount) × (first (hol
 abbrev μ-loop : tie.MeasureT-loop
 μ-loop names slots message start len k₀ k = slotCount - k
 
+-- the places that the answers read
+abbrev entry : tie.At-loop Inv-loop μ-loop → tie.Start Inv-loop μ-loop
+entry c = c .before .before .before
+
+abbrev at-loop : tie.After-holds-name Inv-loop μ-loop → tie.At-loop Inv-loop μ-loop
+at-loop c = c .before .before
+
+abbrev at-loop₂ : tie.Then1 Inv-loop μ-loop → tie.At-loop Inv-loop μ-loop
+at-loop₂ c = c .before .before .before
+
 loop-holds : tie.Need-loop-holds Inv-loop μ-loop
 loop-holds c = (omega arith, first-start _)
 
@@ -25,8 +35,8 @@ holds-name-requires c κs = search needs
 
 returns : tie.Need-returns Inv-loop μ-loop
 returns c =
-    let a = c .before .before .before .before .before .before .args in
-    let l = c .before .before .before .loop in
+    let a = entry (at-loop₂ c) .args in
+    let l = at-loop₂ c .loop in
     let f = holds (part (a .start) (a .len) (a .message .now)) (a .names .now) (a .slots) in
     sym (first-at f slotCount (l .k) (omega arith) (sym (c .before .holds-name .ensures) ∙ c .if1 .taken) (missed f (l .k) (l .inv .1)))
 
@@ -38,12 +48,12 @@ loop-less c = omega arith
 
 loop-again : tie.Need-loop-again Inv-loop μ-loop
 loop-again c =
-    let l = c .before .before .before .loop in
+    let l = at-loop (c .before) .loop in
     (omega arith, first-miss _ (l .k) (l .inv .1) (sym (c .before .holds-name .ensures) ∙ c .if1 .left))
 
 returns-2 : tie.Need-returns-2 Inv-loop μ-loop
 returns-2 c =
-    let a = c .before .before .before .before .args in
+    let a = entry (c .before) .args in
     let l = c .before .loop in
     let e : slotCount ≡ l .k = omega arith in
     sym (ap (first (holds (part (a .start) (a .len) (a .message .now)) (a .names .now) (a .slots))) e ∙ l .inv .1)

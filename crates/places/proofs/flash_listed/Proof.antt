@@ -7,6 +7,13 @@ use borrow.Author.Needs.{needs}
 use Rattle.places.proofs.flash_listed.Statement.{statement}
 use Rattle.places.proofs.flash_listed.Tie as tie
 
+-- the places that the answers read
+abbrev entry : tie.After-is-idle → tie.Start
+entry c = c .before .before .before
+
+abbrev entry₂ : tie.After-is-verified → tie.Start
+entry₂ c = c .before .before .before
+
 enum-told : tie.Need-enum-told
 enum-told c = search needs
 
@@ -38,11 +45,11 @@ returns-2 c = ap (λ (k : FlashKind). flashListed k (c .before .before .args .ph
 
 returns-3 : tie.Need-returns-3
 unfolding flashListed
-returns-3 c = ap not (c .is-idle .ensures) ∙ ap (λ (k : FlashKind). flashListed k (c .before .before .before .args .phase)) (sym (c .before .enum-told3 .given .1))
+returns-3 c = ap not (c .is-idle .ensures) ∙ ap (λ (k : FlashKind). flashListed k (entry c .args .phase)) (sym (c .before .enum-told3 .given .1))
 
 returns-4 : tie.Need-returns-4
 unfolding flashListed
-returns-4 c = c .is-verified .ensures ∙ ap (λ (k : FlashKind). flashListed k (c .before .before .before .args .phase)) (sym (c .before .enum-told4 .given .1))
+returns-4 c = c .is-verified .ensures ∙ ap (λ (k : FlashKind). flashListed k (entry₂ c .args .phase)) (sym (c .before .enum-told4 .given .1))
 
 returns-5 : tie.Need-returns-5
 unfolding flashListed

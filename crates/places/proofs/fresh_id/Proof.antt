@@ -13,10 +13,21 @@ use Rattle.places.proofs.fresh_id.Tie as tie
 
 abbrev Inv-loop : tie.InvT-loop
 Inv-loop table rows next id₀ i₀ id i =
-    (i ≤ rowCount) × (((s : State) → freshFrom rowCount next (withRows rows table s) ≡ freshFrom (rowCount - i) id (withRows rows table s)) × ((id < sixteenBits) × (length table ≡ rowCount * rowWords)))
+    (i ≤ rowCount) × (((s : State) → freshFrom rowCount next (withRows rows table s) ≡ freshFrom (rowCount - i) id (withRows rows table s))
+    × ((id < sixteenBits) × (length table ≡ rowCount * rowWords)))
 
 abbrev μ-loop : tie.MeasureT-loop
 μ-loop table rows next id₀ i₀ id i = rowCount - i
+
+-- the places that the answers read
+abbrev entry : tie.At-loop Inv-loop μ-loop → tie.Start Inv-loop μ-loop
+entry c = c .before .before
+
+abbrev at-loop : tie.Then1 Inv-loop μ-loop → tie.At-loop Inv-loop μ-loop
+at-loop c = c .before .before .before
+
+abbrev at-loop₂ : tie.After-next-id Inv-loop μ-loop → tie.At-loop Inv-loop μ-loop
+at-loop₂ c = c .before .before .before .before
 
 loop-holds : tie.Need-loop-holds Inv-loop μ-loop
 loop-holds c = (search needs, (λ (s : State). refl, search needs))
@@ -26,8 +37,8 @@ is-unused-requires c κs = search needs
 
 returns : tie.Need-returns Inv-loop μ-loop
 returns c =
-    let a = c .before .before .before .before .before .args in
-    let l = c .before .before .before .loop in
+    let a = entry (at-loop c) .args in
+    let l = at-loop c .loop in
     let i = l .i in (
       λ (s : State).
           sym (l .inv .1 .0 s ∙ fresh-stop (withRows (a .rows) (a .table .now) s) (rowCount - i) (rowCount - (i + 1)) (l .id) (omega arith) (sym (c .before .is-unused .ensures) ∙ c .if1 .taken)),
@@ -45,8 +56,8 @@ loop-less c = search needs
 
 loop-again : tie.Need-loop-again Inv-loop μ-loop
 loop-again c =
-    let a = c .before .before .before .before .before .before .args in
-    let l = c .before .before .before .before .loop in
+    let a = entry (at-loop₂ c) .args in
+    let l = at-loop₂ c .loop in
     let i = l .i in (
       search needs,
       (
@@ -60,7 +71,7 @@ loop-again c =
 
 returns-2 : tie.Need-returns-2 Inv-loop μ-loop
 returns-2 c =
-    let a = c .before .before .before .args in
+    let a = entry (c .before) .args in
     let l = c .before .loop in
     let e : rowCount - l .i ≡ 0 = omega arith in
     (λ (s : State). sym (l .inv .1 .0 s ∙ fresh-last (withRows (a .rows) (a .table .now) s) (rowCount - l .i) (l .id) e), l .inv .1 .1 .0)

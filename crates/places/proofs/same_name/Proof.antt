@@ -20,6 +20,13 @@ Inv-loop names k message start len at ok₀ i₀ ok i = (i ≤ 32) × (ok ≡ al
 abbrev μ-loop : tie.MeasureT-loop
 μ-loop names k message start len at ok₀ i₀ ok i = 32 - i
 
+-- the places that the answers read
+abbrev entry : tie.At-loop Inv-loop μ-loop → tie.Start Inv-loop μ-loop
+entry c = c .before .before .before
+
+abbrev at-loop : tie.After-padded-at Inv-loop μ-loop → tie.At-loop Inv-loop μ-loop
+at-loop c = c .before .before .before
+
 mul-at : tie.Need-mul-at Inv-loop μ-loop
 mul-at c = search needs
 
@@ -44,22 +51,23 @@ loop-less c = search needs
 loop-again : tie.Need-loop-again Inv-loop μ-loop
 unfolding sameAt
 loop-again c =
-    let a = c .before .before .before .before .before .before .args in
-    let i = c .before .before .before .loop .i in
+    let a = entry (at-loop c) .args in
+    let i = at-loop c .loop .i in
     let l = a .names .now in
     let e : getD l (a .k * 32 + i) 0 ≡ getD (block nameSize (a .k) .get l) i 0 =
     ap (λ (n : ℕ). getD l (a .k * n + i) 0) (sym name-size) ∙ sym (getD-part (a .k * nameSize) nameSize i l 0 (omega (arith, name-size)))
     in
-    (omega arith, all-step _ i _ _ (c .before .before .before .loop .inv .1) (ap₂ (λ (x y : ℕ). eqb x y) e (c .padded-at .ensures)))
+    (omega arith, all-step _ i _ _ (at-loop c .loop .inv .1) (ap₂ (λ (x y : ℕ). eqb x y) e (c .padded-at .ensures)))
 
 returns : tie.Need-returns Inv-loop μ-loop
 returns c =
-    let s = c .before .before .before .before in
+    let s = entry (c .before) in
     let a = s .args in
     let f = block nameSize (a .k) .get (a .names .now) in
     let p = padded nameSize (part (a .start) (a .len) (a .message .now)) in
     let e : length f ≡ nameSize = length-part (a .k * nameSize) nameSize (a .names .now) (rw (s .pre .0) (block-fits nameSize (a .k) slotCount (s .pre .1 .0))) in
-    all-end _ 32 (c .before .loop .i) _ (omega arith) (omega arith) (c .before .loop .inv .1) ∙ same-all f p 32 (e ∙ name-size) (padded-length nameSize (part (a .start) (a .len) (a .message .now)) ∙ name-size)
+    all-end _ 32 (c .before .loop .i) _ (omega arith) (omega arith) (c .before .loop .inv .1) ∙ same-all f p 32 (e ∙ name-size)
+    (padded-length nameSize (part (a .start) (a .len) (a .message .now)) ∙ name-size)
 
 pub same-name-spec : {M : Type 1} → statement M
 same-name-spec =

@@ -1,6 +1,6 @@
 -- `request_decode::body_fits` meets its contract: each arm knows the subcommand. Assumes nothing.
 use Rattle.protocol.specs.Decode.{bodyFits}
-use Rattle.request_decode.proofs.Fits.{other-body}
+use Rattle.request_decode.proofs.Fits.{no-command}
 use Rattle.request_decode.proofs.body_fits.Statement.{statement}
 use Rattle.request_decode.proofs.body_fits.Tie as tie
 
@@ -45,7 +45,13 @@ unfolding bodyFits
 returns-10 c = rw (c .match .keys10)
 
 returns-11 : tie.Need-returns-11
-returns-11 c = other-body _ _ (c .match .rest .0 .0 .0 .0 .0 .0 .0 .0 .0 .1) (c .match .rest .0 .0 .0 .0 .0 .0 .0 .0 .1) (c .match .rest .0 .0 .0 .0 .0 .0 .0 .1) (c .match .rest .0 .0 .0 .0 .0 .0 .1) (c .match .rest .0 .0 .0 .0 .0 .1) (c .match .rest .0 .0 .0 .0 .1) (c .match .rest .0 .0 .0 .1) (c .match .rest .0 .0 .1) (c .match .rest .0 .1) (c .match .rest .1)
+unfolding bodyFits
+returns-11 c = rw (c .match .keys11)
+
+returns-12 : tie.Need-returns-12
+returns-12 c = let n = c .match .rest in
+    no-command _ _ (n .0 .0 .0 .0 .0 .0 .0 .0 .0 .0 .1) (n .0 .0 .0 .0 .0 .0 .0 .0 .0 .1) (n .0 .0 .0 .0 .0 .0 .0 .0 .1) (n .0 .0 .0 .0 .0 .0 .0 .1) (n .0 .0 .0 .0 .0 .0 .1) (n .0 .0 .0 .0 .0 .1)
+    (n .0 .0 .0 .0 .1) (n .0 .0 .0 .1) (n .0 .0 .1) (n .0 .1) (n .1)
 
 pub body-fits-spec : {M : Type 1} → statement M
 body-fits-spec =
@@ -61,4 +67,5 @@ body-fits-spec =
     returns-8
     returns-9
     returns-10
-    returns-11)
+    returns-11
+    returns-12)

@@ -8,6 +8,10 @@ use borrow.Author.Needs.{needs}
 use Rattle.request_decode.proofs.crc_fits.Statement.{statement}
 use Rattle.request_decode.proofs.crc_fits.Tie as tie
 
+-- the places that the answers read
+abbrev at-crc-field : tie.After-struct-known → tie.After-crc-field
+at-crc-field c = c .before .before .before
+
 crc-field-requires : tie.Need-crc-field-requires
 crc-field-requires c κs = search needs
 
@@ -26,7 +30,7 @@ crc16-requires : tie.Need-crc16-requires
 crc16-requires c κs = search needs
 
 returns : tie.Need-returns
-returns c = crc-found _ _ _ (c .before .before .before .crc-field .ensures) (c .before .crc16 .ensures)
+returns c = crc-found _ _ _ (at-crc-field c .crc-field .ensures) (c .before .crc16 .ensures)
 
 pub crc-fits-spec : {M : Type 1} → statement M
 crc-fits-spec =

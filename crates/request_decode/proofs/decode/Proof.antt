@@ -14,11 +14,45 @@ use borrow.Author.Needs.{needs}
 use Rattle.request_decode.proofs.decode.Statement.{statement}
 use Rattle.request_decode.proofs.decode.Tie as tie
 
--- what the tests passed so far say, at the place where the OEM number is right, and where the body's length is
-passed : (c : tie.Else3) → Passed (now (c .before .before .before .before .before .before .args .message))
-passed c = passes _ (c .before .before .before .before .if1 .left) (c .before .before .before .if2 .left) _ (c .before .is-oem .ensures) (c .if3 .left)
+-- the places that the answers read
+abbrev entry : tie.Else2 → tie.Start
+entry c = c .before .before .before
 
-fits : (c : tie.Else5) → bodyFits (getD (now (c .before .before .before .before .before .before .before .before .before .args .message)) 3 0) (length (now (c .before .before .before .before .before .before .before .before .before .args .message)) - 4) ≡ true
+abbrev entry₂ : tie.Else5 → tie.Start
+entry₂ c = c .before .before .before .before .before .before .before .before .before
+
+abbrev in-else2 : tie.Then3 → tie.Else2
+in-else2 c = c .before .before .before
+
+abbrev in-else2₂ : tie.Else3 → tie.Else2
+in-else2₂ c = c .before .before .before
+
+abbrev in-else3 : tie.Then5 → tie.Else3
+in-else3 c = c .before .before .before
+
+abbrev in-else3₂ : tie.Else5 → tie.Else3
+in-else3₂ c = c .before .before .before
+
+abbrev in-else4 : tie.Else5 → tie.Else4
+in-else4 c = c .before .before
+
+abbrev in-else5 : tie.After-crc-fits → tie.Else5
+in-else5 c = c .before .before .before
+
+abbrev in-else5₂ : tie.Then7 → tie.Else5
+in-else5₂ c = c .before .before .before .before
+
+abbrev in-else5₃ : tie.After-request-of → tie.Else5
+in-else5₃ c = c .before .before .before .before .before
+
+abbrev in-else6 : tie.After-crc-fits → tie.Else6
+in-else6 c = c .before .before
+
+-- what the tests passed so far say, at the place where the OEM number is right, and where the body's length is
+passed : (c : tie.Else3) → Passed (now (entry (in-else2₂ c) .args .message))
+passed c = passes _ (in-else2₂ c .before .if1 .left) (in-else2₂ c .if2 .left) _ (c .before .is-oem .ensures) (c .if3 .left)
+
+fits : (c : tie.Else5) → bodyFits (getD (now (entry₂ c .args .message)) 3 0) (length (now (entry₂ c .args .message)) - 4) ≡ true
 fits c = flag-true (c .before .body-fits .ensures) (c .if5 .left)
 
 returns : tie.Need-returns
@@ -34,7 +68,7 @@ is-oem-requires : tie.Need-is-oem-requires
 is-oem-requires c κs = search needs
 
 returns-3 : tie.Need-returns-3
-returns-3 c = not-ours _ (c .before .before .before .before .if1 .left) (c .before .before .before .if2 .left) _ (c .before .is-oem .ensures) (c .if3 .taken)
+returns-3 c = not-ours _ (in-else2 c .before .if1 .left) (in-else2 c .if2 .left) _ (c .before .is-oem .ensures) (c .if3 .taken)
 
 returns-4 : tie.Need-returns-4
 returns-4 c = no-command _ (passed (c .before)) (c .if4 .taken)
@@ -43,10 +77,10 @@ body-fits-requires : tie.Need-body-fits-requires
 body-fits-requires c κs = search needs
 
 returns-5 : tie.Need-returns-5
-returns-5 c = wrong-body _ (passed (c .before .before .before)) (c .before .before .if4 .left) _ (c .before .body-fits .ensures) (c .if5 .taken)
+returns-5 c = wrong-body _ (passed (in-else3 c)) (c .before .before .if4 .left) _ (c .before .body-fits .ensures) (c .if5 .taken)
 
 returns-6 : tie.Need-returns-6
-returns-6 c = count-is _ (passed (c .before .before .before .before)) (c .before .before .before .if4 .left) (fits (c .before)) (c .if6 .taken)
+returns-6 c = count-is _ (passed (in-else3₂ (c .before))) (in-else4 (c .before) .if4 .left) (fits (c .before)) (c .if6 .taken)
 
 sub-crc-fits : tie.Need-sub-crc-fits
 sub-crc-fits c = search needs
@@ -58,16 +92,21 @@ part-crc-fits-end : tie.Need-part-crc-fits-end
 part-crc-fits-end c = search needs
 
 crc-fits-requires : tie.Need-crc-fits-requires
-crc-fits-requires c κs = omega (arith, body-length (now (c .before .before .before .before .before .before .before .before .before .before .before .args .message)), some-body _ _ (c .before .if6 .left) (fits (c .before .before)))
+crc-fits-requires c κs = omega (arith, body-length (now (entry₂ (c .before .before) .args .message)), some-body _ _ (c .before .if6 .left) (fits (c .before .before)))
 
 returns-7 : tie.Need-returns-7
-returns-7 c = wrong-crc _ (passed (c .before .before .before .before .before .before .before)) (c .before .before .before .before .before .before .if4 .left) (fits (c .before .before .before .before)) _ (c .before .crc-fits .ensures) (c .before .before .before .if6 .left) (c .if7 .taken)
+returns-7 c =
+    let else5 = in-else5₂ c in
+    wrong-crc _ (passed (in-else3₂ else5)) (in-else4 else5 .if4 .left) (fits else5) _ (c .before .crc-fits .ensures) (in-else6 (c .before) .if6 .left) (c .if7 .taken)
 
 request-of-requires : tie.Need-request-of-requires
-request-of-requires c κs = ((omega arith, omega arith), (omega arith, fits (c .before .before .before .before)))
+request-of-requires c κs = ((omega arith, omega arith), (omega arith, fits (in-else5 (c .before))))
 
 returns-8 : tie.Need-returns-8
-returns-8 c = request-is _ (passed (c .before .before .before .before .before .before .before .before)) (c .before .before .before .before .before .before .before .if4 .left) (fits (c .before .before .before .before .before)) _ (c .before .before .crc-fits .ensures) (c .before .before .before .before .if6 .left) _ (c .before .if7 .left) (c .request-of .ensures)
+returns-8 c =
+    let else5 = in-else5₃ c in
+    request-is _ (passed (in-else3₂ else5)) (in-else4 else5 .if4 .left) (fits else5) _ (c .before .before .crc-fits .ensures) (in-else6 (c .before .before) .if6 .left) _
+    (c .before .if7 .left) (c .request-of .ensures)
 
 pub decode-spec : {M : Type 1} → statement M
 decode-spec =

@@ -14,6 +14,10 @@ Inv-loop s ok₀ i₀ i-end ok i = (i-end ≡ length s) × (i ≤ length s) × (
 abbrev μ-loop : tie.MeasureT-loop
 μ-loop s ok₀ i₀ i-end ok i = length s - i
 
+-- the places that the answers read
+abbrev at-loop : tie.After-is-alnum Inv-loop μ-loop → tie.At-loop Inv-loop μ-loop
+at-loop c = c .before .before .before
+
 loop-holds : tie.Need-loop-holds Inv-loop μ-loop
 loop-holds c = (omega arith, omega arith, all-start _)
 
@@ -30,7 +34,7 @@ loop-less : tie.Need-loop-less Inv-loop μ-loop
 loop-less c = omega arith
 
 loop-again : tie.Need-loop-again Inv-loop μ-loop
-loop-again c = (omega arith, omega arith, all-step _ _ _ _ (c .before .before .before .loop .inv .2) (c .is-alnum .ensures))
+loop-again c = (omega arith, omega arith, all-step _ _ _ _ (at-loop c .loop .inv .2) (c .is-alnum .ensures))
 
 returns : tie.Need-returns Inv-loop μ-loop
 returns c = all-end _ _ _ _ (omega arith) (omega arith) (c .before .loop .inv .2)

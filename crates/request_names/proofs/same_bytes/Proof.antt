@@ -15,6 +15,10 @@ Inv-loop a b ok₀ i₀ i-end ok i = (i-end ≡ length a) × (length a ≡ lengt
 abbrev μ-loop : tie.MeasureT-loop
 μ-loop a b ok₀ i₀ i-end ok i = length a - i
 
+-- the places that the answers read
+abbrev at-loop : tie.After-shared-slice-known2 Inv-loop μ-loop → tie.At-loop Inv-loop μ-loop
+at-loop c = c .before .before .before
+
 returns : tie.Need-returns Inv-loop μ-loop
 returns c = same-lengths _ _ (c .if1 .taken)
 
@@ -34,7 +38,7 @@ loop-less : tie.Need-loop-less Inv-loop μ-loop
 loop-less c = omega arith
 
 loop-again : tie.Need-loop-again Inv-loop μ-loop
-loop-again c = (omega arith, omega arith, omega arith, all-step _ _ _ _ (c .before .before .before .loop .inv .3) refl)
+loop-again c = (omega arith, omega arith, omega arith, all-step _ _ _ _ (at-loop c .loop .inv .3) refl)
 
 returns-2 : tie.Need-returns-2 Inv-loop μ-loop
 returns-2 c = same-all _ _ _ (omega arith) (all-end _ _ _ _ (omega arith) (omega arith) (c .before .loop .inv .3))

@@ -8,6 +8,10 @@ use Rattle.request_reader.proofs.Little.{two}
 use Rattle.request_reader.proofs.u16_at.Statement.{statement}
 use Rattle.request_reader.proofs.u16_at.Tie as tie
 
+-- the places that the answers read
+abbrev entry : tie.Else1 → tie.Start
+entry c = c .before .before .before .before
+
 u8-at-requires : tie.Need-u8-at-requires
 u8-at-requires c κs = search needs
 
@@ -33,7 +37,7 @@ returns : tie.Need-returns
 returns c = rw two (search needs)
 
 returns-2 : tie.Need-returns-2
-returns-2 c = rw two (omega (arith, List·getD-eq-default (c .before .before .before .before .args .s .now) 0 {n = c .before .before .before .before .args .at + 1} (omega arith)))
+returns-2 c = rw two (omega (arith, List·getD-eq-default (entry c .args .s .now) 0 {n = entry c .args .at + 1} (omega arith)))
 
 pub u16-at-spec : {M : Type 1} → statement M
 u16-at-spec = tie.close (tie.spec u8-at-requires wide16-requires add-u8-at u8-at-requires-2 wide16-requires-2 mul-result add-result returns returns-2)

@@ -5,6 +5,10 @@ use borrow.Author.Needs.{needs}
 use Rattle.response_frame.proofs.put_at.Statement.{statement}
 use Rattle.response_frame.proofs.put_at.Tie as tie
 
+-- the places that the answers read
+abbrev entry : tie.After-slice-known2 → tie.Start
+entry c = c .before .before .before .before .before .before
+
 copy-at-requires : tie.Need-copy-at-requires
 copy-at-requires c κs = search needs
 
@@ -16,8 +20,9 @@ same-length c = search needs
 
 returns : tie.Need-returns
 returns c =
-    let a = c .before .before .before .before .before .before .args in
-    (refl, c .before .before .copy-at .ensures ∙ sym (pasted (a .dst .now) (a .at) (a .src .now) (c .before .before .before .before .before .before .pre)))
+    let start = entry c in
+    let a = start .args in
+    (refl, c .before .before .copy-at .ensures ∙ sym (pasted (a .dst .now) (a .at) (a .src .now) (start .pre)))
 
 pub put-at-spec : {M : Type 1} → statement M
 put-at-spec = tie.close (tie.spec copy-at-requires add-result same-length returns)

@@ -5,6 +5,10 @@ use borrow.Author.Needs.{needs}
 use Rattle.response_frame.proofs.respond_empty.Statement.{statement}
 use Rattle.response_frame.proofs.respond_empty.Tie as tie
 
+-- the places that the answers read
+abbrev at-header-of : tie.After-slice-known2 → tie.After-header-of
+at-header-of c = c .before .before .before .before .before
+
 header-of-requires : tie.Need-header-of-requires
 header-of-requires c κs = search needs
 
@@ -19,8 +23,8 @@ same-length c = search needs
 
 returns : tie.Need-returns
 returns c = (
-  empty-long _ _ _ (c .before .before .before .before .before .header-of .ensures) (c .before .before .put-at .ensures .0),
-  c .before .before .put-at .ensures .1 ∙ empty-is _ _ _ (c .before .before .before .before .before .header-of .ensures),
+  empty-long _ _ _ (at-header-of c .header-of .ensures) (c .before .before .put-at .ensures .0),
+  c .before .before .put-at .ensures .1 ∙ empty-is _ _ _ (at-header-of c .header-of .ensures),
 )
 
 pub respond-empty-spec : {M : Type 1} → statement M

@@ -6,6 +6,21 @@ use borrow.Author.Needs.{needs}
 use Rattle.response_frame.proofs.respond_with.Statement.{statement}
 use Rattle.response_frame.proofs.respond_with.Tie as tie
 
+-- the places that the answers read
+abbrev at-header-of : tie.After-slice-known4 → tie.After-header-of
+at-header-of c =
+    c .before .before .before .before .before .before .before .before .before .before .before .before .before .before
+    .before .before
+
+abbrev at-bytes-of-u16 : tie.After-slice-known4 → tie.After-bytes-of-u16
+at-bytes-of-u16 c = c .before .before .before .before .before .before .before .before .before .before .before .before .before .before
+
+abbrev at-put-at : tie.After-slice-known4 → tie.After-put-at
+at-put-at c = c .before .before .before .before .before .before .before .before .before .before .before
+
+abbrev at-put-at2 : tie.After-slice-known4 → tie.After-put-at2
+at-put-at2 c = c .before .before .before .before .before .before
+
 header-of-requires : tie.Need-header-of-requires
 header-of-requires c κs = search needs
 
@@ -36,8 +51,8 @@ same-length c = search needs
 returns : tie.Need-returns
 returns c =
     let whole =
-    with-is _ _ _ _ _ _ _ _ _ _ (c .before .before .before .before .before .before .before .before .before .before .before .before .before .before .before .before .header-of .ensures) (c .before .before .before .before .before .before .before .before .before .before .before .before .before .before .bytes-of-u16 .ensures ∙ ap (bytesOf 2) (c .before .before .before .before .before .before .before .before .before .before .before .before .before .before .before .crc16 .ensures))
-    (c .before .before .before .before .before .before .before .before .before .before .before .put-at .ensures .1) (c .before .before .before .before .before .before .before .before .before .before .before .put-at .ensures .0) (c .before .before .before .before .before .before .put-at2 .ensures .1) (c .before .before .before .before .before .before .put-at2 .ensures .0) (c .before .before .put-at3 .ensures .1) in
+    with-is _ _ _ _ _ _ _ _ _ _ (at-header-of c .header-of .ensures) (at-bytes-of-u16 c .bytes-of-u16 .ensures ∙ ap (bytesOf 2) (at-bytes-of-u16 c .before .crc16 .ensures))
+    (at-put-at c .put-at .ensures .1) (at-put-at c .put-at .ensures .0) (at-put-at2 c .put-at2 .ensures .1) (at-put-at2 c .put-at2 .ensures .0) (c .before .before .put-at3 .ensures .1) in
     (c .before .before .put-at3 .ensures .0 ∙ whole .0, whole .1)
 
 pub respond-with-spec : {M : Type 1} → statement M

@@ -11,6 +11,49 @@ use Rattle.response_send.proofs.Laws.{refused-right, done-right, fields
 use Rattle.response_send.proofs.finish.Statement.{statement}
 use Rattle.response_send.proofs.finish.Tie as tie
 
+-- the places that the answers read
+abbrev entry : tie.After-known-told → tie.Start
+entry c = c .before .before .before .before
+
+abbrev entry₂ : tie.After-slice-known2 → tie.Start
+entry₂ c = c .before .before .before .before .before .before .before
+
+abbrev entry₃ : tie.After-slice-known3 → tie.Start
+entry₃ c = c .before .before .before .before .before .before .before .before .before .before
+
+abbrev entry₄ : tie.After-slice-known4 → tie.Start
+entry₄ c = c .before .before .before .before .before .before .before .before .before .before
+
+abbrev entry₅ : tie.After-slice-known5 → tie.Start
+entry₅ c = c .before .before .before .before .before .before .before .before .before .before
+
+abbrev entry₆ : tie.After-said5 → tie.Start
+entry₆ c = c .before .before .before
+
+abbrev at-enum-told : tie.After-slice-known2 → tie.After-enum-told
+at-enum-told c = c .before .before .before .before
+
+abbrev at-said2 : tie.After-slice-known3 → tie.After-said2
+at-said2 c = c .before .before .before .before .before .before .before
+
+abbrev at-bytes-of-u16 : tie.After-slice-known3 → tie.After-bytes-of-u16
+at-bytes-of-u16 c = c .before .before .before .before .before
+
+abbrev at-said3 : tie.After-slice-known4 → tie.After-said3
+at-said3 c = c .before .before .before .before .before .before .before
+
+abbrev at-bytes-of-u32 : tie.After-slice-known4 → tie.After-bytes-of-u32
+at-bytes-of-u32 c = c .before .before .before .before .before
+
+abbrev at-said4 : tie.After-slice-known5 → tie.After-said4
+at-said4 c = c .before .before .before .before .before .before .before
+
+abbrev at-stat-bytes : tie.After-slice-known5 → tie.After-stat-bytes
+at-stat-bytes c = c .before .before .before .before .before
+
+abbrev at-said5 : tie.After-slice-known6 → tie.After-said5
+at-said5 c = c .before .before .before .before .before
+
 enum-known-said : tie.Need-enum-known-said
 enum-known-said c = search needs
 
@@ -60,40 +103,58 @@ enum-known-said-5 : tie.Need-enum-known-said-5
 enum-known-said-5 c = search needs
 
 seal-requires : tie.Need-seal-requires
-seal-requires c κs = let q = subst (λ (y : Said). fieldsLength y ≤ readMost) (c .before .before .said5 .given .1) (c .before .before .before .before .before .pre .1) in omega (arith, q)
+seal-requires c κs = let q = subst (λ (y : Said). fieldsLength y ≤ readMost) (c .before .before .said5 .given .1) (entry₆ (c .before .before) .pre .1) in omega (arith, q)
 
 returns : tie.Need-returns
-returns c = refused-right (c .before .before .before .before .args .sub) (c .before .before .before .before .args .said) _ (c .before .before .before .before .args .answer .now) (c .before .said .given .1)
+returns c =
+    let start = entry c in
+    refused-right (start .args .sub) (start .args .said) _ (start .args .answer .now) (c .before .said .given .1)
 
 same-length : tie.Need-same-length
 same-length c = search needs
 
 returns-2 : tie.Need-returns-2
-returns-2 c = done-right (c .before .before .before .before .before .before .before .args .sub) (c .before .before .before .before .before .before .before .args .said) (c .before .before .before .before .before .before .before .args .answer .now) _ _ (c .before .before .before .before .enum-told .given .1) (c .before .before .respond-empty .ensures .0) (c .before .before .respond-empty .ensures .1)
+returns-2 c =
+    let start = entry₂ c in
+    done-right (start .args .sub) (start .args .said) (start .args .answer .now) _ _ (at-enum-told c .enum-told .given .1) (c .before .before .respond-empty .ensures .0)
+    (c .before .before .respond-empty .ensures .1)
 
 same-length-2 : tie.Need-same-length-2
 same-length-2 c = search needs
 
 returns-3 : tie.Need-returns-3
-returns-3 c = fields-right (c .before .before .before .before .before .before .before .before .before .before .args .sub) (c .before .before .before .before .before .before .before .before .before .before .args .said) _ (c .before .before .before .before .before .before .before .before .before .before .args .answer .now) _ _ (ap (λ (y : Said). replyOf y (c .before .before .before .before .before .before .before .before .before .before .args .answer .now)) (c .before .before .before .before .before .before .before .said2 .given .1) ∙ ap reply (sym (c .before .before .before .before .before .bytes-of-u16 .ensures))) (c .before .before .respond-with .ensures .0) (c .before .before .respond-with .ensures .1)
+returns-3 c =
+    let start = entry₃ c in
+    fields-right (start .args .sub) (start .args .said) _ (start .args .answer .now) _ _ (ap (λ (y : Said). replyOf y (start .args .answer .now)) (at-said2 c .said2 .given .1) ∙ ap
+    reply (sym (at-bytes-of-u16 c .bytes-of-u16 .ensures))) (c .before .before .respond-with .ensures .0) (c .before .before .respond-with .ensures .1)
 
 same-length-3 : tie.Need-same-length-3
 same-length-3 c = search needs
 
 returns-4 : tie.Need-returns-4
-returns-4 c = fields-right (c .before .before .before .before .before .before .before .before .before .before .args .sub) (c .before .before .before .before .before .before .before .before .before .before .args .said) _ (c .before .before .before .before .before .before .before .before .before .before .args .answer .now) _ _ (ap (λ (y : Said). replyOf y (c .before .before .before .before .before .before .before .before .before .before .args .answer .now)) (c .before .before .before .before .before .before .before .said3 .given .1) ∙ ap reply (sym (c .before .before .before .before .before .bytes-of-u32 .ensures))) (c .before .before .respond-with2 .ensures .0) (c .before .before .respond-with2 .ensures .1)
+returns-4 c =
+    let start = entry₄ c in
+    fields-right (start .args .sub) (start .args .said) _ (start .args .answer .now) _ _ (ap (λ (y : Said). replyOf y (start .args .answer .now)) (at-said3 c .said3 .given .1) ∙ ap
+    reply (sym (at-bytes-of-u32 c .bytes-of-u32 .ensures))) (c .before .before .respond-with2 .ensures .0) (c .before .before .respond-with2 .ensures .1)
 
 same-length-4 : tie.Need-same-length-4
 same-length-4 c = search needs
 
 returns-5 : tie.Need-returns-5
-returns-5 c = fields-right (c .before .before .before .before .before .before .before .before .before .before .args .sub) (c .before .before .before .before .before .before .before .before .before .before .args .said) _ (c .before .before .before .before .before .before .before .before .before .before .args .answer .now) _ _ (ap (λ (y : Said). replyOf y (c .before .before .before .before .before .before .before .before .before .before .args .answer .now)) (c .before .before .before .before .before .before .before .said4 .given .1) ∙ ap reply (sym (c .before .before .before .before .before .stat-bytes .ensures))) (c .before .before .respond-with3 .ensures .0) (c .before .before .respond-with3 .ensures .1)
+returns-5 c =
+    let start = entry₅ c in
+    fields-right (start .args .sub) (start .args .said) _ (start .args .answer .now) _ _ (ap (λ (y : Said). replyOf y (start .args .answer .now)) (at-said4 c .said4 .given .1) ∙ ap
+    reply (sym (at-stat-bytes c .stat-bytes .ensures))) (c .before .before .respond-with3 .ensures .0) (c .before .before .respond-with3 .ensures .1)
 
 same-length-5 : tie.Need-same-length-5
 same-length-5 c = search needs
 
 returns-6 : tie.Need-returns-6
-returns-6 c = fields-right (c .before .before .before .before .before .before .before .before .args .sub) (c .before .before .before .before .before .before .before .before .args .said) _ (c .before .before .before .before .before .before .before .before .args .answer .now) _ _ (ap (λ (y : Said). replyOf y (c .before .before .before .before .before .before .before .before .args .answer .now)) (c .before .before .before .before .before .said5 .given .1)) (c .before .before .seal .ensures .0) (c .before .before .seal .ensures .1)
+returns-6 c =
+    let said5 = at-said5 c in
+    let start = entry₆ said5 in
+    fields-right (start .args .sub) (start .args .said) _ (start .args .answer .now) _ _ (ap (λ (y : Said). replyOf y (start .args .answer .now)) (said5 .said5 .given .1))
+    (c .before .before .seal .ensures .0) (c .before .before .seal .ensures .1)
 
 pub finish-spec : {M : Type 1} → statement M
 finish-spec =

@@ -10,6 +10,21 @@ use Rattle.response_send.proofs.Laws.{sealed}
 use Rattle.response_send.proofs.seal.Statement.{statement}
 use Rattle.response_send.proofs.seal.Tie as tie
 
+-- the places that the answers read
+abbrev entry : tie.After-slice-known3 → tie.Start
+entry c =
+    c .before .before .before .before .before .before .before .before .before .before .before .before .before .before
+    .before .before
+
+abbrev at-header-of : tie.After-slice-known3 → tie.After-header-of
+at-header-of c = c .before .before .before .before .before .before .before .before .before .before .before .before .before .before
+
+abbrev at-bytes-of-u16 : tie.After-slice-known3 → tie.After-bytes-of-u16
+at-bytes-of-u16 c = c .before .before .before .before .before .before .before .before .before .before
+
+abbrev at-put-at : tie.After-slice-known3 → tie.After-put-at
+at-put-at c = c .before .before .before .before .before .before .before
+
 add-end : tie.Need-add-end
 add-end c = search needs
 
@@ -47,7 +62,13 @@ same-length : tie.Need-same-length
 same-length c = search needs
 
 returns : tie.Need-returns
-returns c = let a = c .before .before .before .before .before .before .before .before .before .before .before .before .before .before .before .before .args .answer .now in let n = c .before .before .before .before .before .before .before .before .before .before .before .before .before .before .before .before .args .len in sealed (c .before .before .before .before .before .before .before .before .before .before .before .before .before .before .before .before .args .sub) n _ _ a _ _ _ (c .before .before .before .before .before .before .before .before .before .before .before .before .before .before .header-of .ensures) (c .before .before .before .before .before .before .before .before .before .before .bytes-of-u16 .ensures ∙ ap (bytesOf 2) (c .before .before .before .before .before .before .before .before .before .before .before .crc16 .ensures ∙ ap crc (lent-part fieldsAt n a))) (c .before .before .before .before .before .before .before .put-at .ensures .1) (c .before .before .before .before .before .before .before .put-at .ensures .0) (c .before .before .put-at2 .ensures .1) (c .before .before .before .before .before .before .before .before .before .before .before .before .before .before .before .before .pre)
+returns c =
+    let start = entry c in
+    let a = start .args .answer .now in
+    let n = start .args .len in
+    sealed (start .args .sub) n _ _ a _ _ _ (at-header-of c .header-of .ensures)
+    (at-bytes-of-u16 c .bytes-of-u16 .ensures ∙ ap (bytesOf 2) (at-bytes-of-u16 c .before .crc16 .ensures ∙ ap crc (lent-part fieldsAt n a))) (at-put-at c .put-at .ensures .1)
+    (at-put-at c .put-at .ensures .0) (c .before .before .put-at2 .ensures .1) (start .pre)
 
 pub seal-spec : {M : Type 1} → statement M
 seal-spec =

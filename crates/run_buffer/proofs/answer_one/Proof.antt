@@ -10,6 +10,25 @@ use borrow.Author.Needs.{needs}
 use Rattle.run_buffer.proofs.answer_one.Statement.{statement}
 use Rattle.run_buffer.proofs.answer_one.Tie as tie
 
+-- the places that the answers read
+abbrev entry : tie.After-respond → tie.Start
+entry c =
+    c .before .before .before .before .before .before .before .before .before .before .before .before .before .before
+    .before .before .before .before
+
+abbrev at-respond : tie.After-write-line-arg2 → tie.After-respond
+at-respond c =
+    c .before .before .before .before .before .before .before .before .before .before .before .before .before .before
+    .before .before .before
+
+abbrev at-respond₂ : tie.After-next → tie.After-respond
+at-respond₂ c =
+    c .before .before .before .before .before .before .before .before .before .before .before .before .before .before
+    .before .before .before .before .before .before .before
+
+abbrev at-write-line : tie.After-next → tie.After-write-line
+at-write-line c = c .before .before .before
+
 add-behind : tie.Need-add-behind
 add-behind c = search needs
 
@@ -27,8 +46,8 @@ respond-requires c κs = tt
 
 write-line-requires : tie.Need-write-line-requires
 write-line-requires c κs =
-    let fits = reply-fits _ _ _ _ (c .before .before .before .before .before .before .before .before .before .before .before .before .before .before .before .before .before .respond .ensures) in
-    (fits .0, (fits .1, c .before .before .before .before .before .before .before .before .before .before .before .before .before .before .before .before .before .before .before .before .before .before .before .before .before .before .before .before .before .before .before .before .before .before .before .pre .1))
+    let fits = reply-fits _ _ _ _ (at-respond c .respond .ensures) in
+    (fits .0, (fits .1, entry (at-respond c) .pre .1))
 
 same-length : tie.Need-same-length
 same-length c = search needs
@@ -56,11 +75,12 @@ same-length-8 c = search needs
 
 returns : tie.Need-returns
 returns c =
-    let a = c .before .before .before .before .before .before .before .before .before .before .before .before .before .before .before .before .before .before .before .before .before .before .before .before .before .before .before .before .before .before .before .before .before .before .before .before .before .before .before .args in
+    let a = entry (at-respond₂ c) .args in
     step-is (a .text .now) (a .at)
-    (c .before .before .before .before .before .before .before .before .before .before .before .before .before .before .before .before .before .before .before .before .before .respond .ensures
-    ∙ ap (λ (m : List ℕ). served (a .clock) m (stateOf (a .control) (a .table .now) (a .names .now) (a .committed .now) (a .staged .now) (a .image .now) (a .hash .now)) (a .answer .now)) (lent-part (a .start) (a .len) (a .records .now)))
-    (c .before .before .before .write-line .ensures)
+    (at-respond₂ c .respond .ensures
+    ∙ ap (λ (m : List ℕ). served (a .clock) m (stateOf (a .control) (a .table .now) (a .names .now) (a .committed .now) (a .staged .now) (a .image .now) (a .hash .now))
+    (a .answer .now)) (lent-part (a .start) (a .len) (a .records .now)))
+    (at-write-line c .write-line .ensures)
 
 pub answer-one-spec : {M : Type 1} → statement M
 answer-one-spec =

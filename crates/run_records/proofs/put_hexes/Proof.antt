@@ -15,6 +15,13 @@ Inv-loop text₀ at bytes len i₀ text i = (i ≤ len) × ((length text ≡ len
 abbrev μ-loop : tie.MeasureT-loop
 μ-loop text₀ at bytes len i₀ text i = len - i
 
+-- the places that the answers read
+abbrev entry : tie.At-loop Inv-loop μ-loop → tie.Start Inv-loop μ-loop
+entry c = c .before .before .before
+
+abbrev at-loop : tie.After-slice-known2 Inv-loop μ-loop → tie.At-loop Inv-loop μ-loop
+at-loop c = c .before .before .before .before .before .before
+
 loop-holds : tie.Need-loop-holds Inv-loop μ-loop
 unfolding hexes
 loop-holds c = (omega arith, (refl, refl))
@@ -39,8 +46,8 @@ loop-less c = omega arith
 
 loop-again : tie.Need-loop-again Inv-loop μ-loop
 loop-again c =
-    let l = c .before .before .before .before .before .before .loop in
-    let a = c .before .before .before .before .before .before .before .before .before .args in
+    let l = at-loop c .loop in
+    let a = entry (at-loop c) .args in
     let p = c .before .before .put-hex in (
       omega arith,
       (
@@ -54,7 +61,7 @@ same-length c = c .before .loop .inv .1 .0
 
 returns : tie.Need-returns Inv-loop μ-loop
 returns c =
-    let a = c .before .before .before .before .args in
+    let a = entry (c .before) .args in
     let e : c .before .loop .i ≡ a .len = omega arith in
     c .before .loop .inv .1 .1 ∙ ap (λ (i : ℕ). sets (a .text .now) (a .at) (hexes (take i (a .bytes .now)))) e
 

@@ -8,6 +8,19 @@ use borrow.Author.Needs.{needs}
 use Rattle.run_records.proofs.write_answer.Statement.{statement}
 use Rattle.run_records.proofs.write_answer.Tie as tie
 
+-- the places that the answers read
+abbrev entry : tie.After-put-hex → tie.Start
+entry c = c .before .before .before .before
+
+abbrev at-put-hex : tie.Then1 → tie.After-put-hex
+at-put-hex c = c .before .before .before .before .before
+
+abbrev at-put-hex₂ : tie.After-slice-known3 → tie.After-put-hex
+at-put-hex₂ c = c .before .before .before .before .before .before .before .before .before
+
+abbrev in-else1 : tie.After-slice-known3 → tie.Else1
+in-else1 c = c .before .before .before .before
+
 put-hex-requires : tie.Need-put-hex-requires
 put-hex-requires c κs = search needs
 
@@ -19,8 +32,8 @@ same-length c = search needs
 
 returns : tie.Need-returns
 returns c =
-    let a = c .before .before .before .before .before .before .before .before .before .args in
-    refused-written (a .text .now) (c .before .before .before .before .before .put-hex .last .0) (take (a .len) (a .answer .now)) (a .at) (a .code .0) (c .before .before .before .before .before .put-hex .ensures) (c .if1 .taken)
+    let a = entry (at-put-hex c) .args in
+    refused-written (a .text .now) (at-put-hex c .put-hex .last .0) (take (a .len) (a .answer .now)) (a .at) (a .code .0) (at-put-hex c .put-hex .ensures) (c .if1 .taken)
 
 slice-write-text : tie.Need-slice-write-text
 slice-write-text c = search needs
@@ -41,13 +54,13 @@ add-result-2 : tie.Need-add-result-2
 add-result-2 c = search needs
 
 same-length-2 : tie.Need-same-length-2
-same-length-2 c = c .before .before .put-hexes .kept .0 ∙ simp length-set (c .before .before .before .before .before .before .before .before .before .put-hex .kept .0)
+same-length-2 c = c .before .before .put-hexes .kept .0 ∙ simp length-set (at-put-hex₂ c .put-hex .kept .0)
 
 returns-2 : tie.Need-returns-2
 returns-2 c =
-    let a = c .before .before .before .before .before .before .before .before .before .before .before .before .before .args in
-    success-written (a .text .now) (c .before .before .before .before .before .before .before .before .before .put-hex .last .0) (take (a .len) (a .answer .now)) (a .at) (a .code .0) (c .before .before .before .before .before .before .before .before .before .put-hex .ensures)
-    (c .before .before .put-hexes .last .0) (a .len) (c .before .before .before .before .if1 .left) (length-take-le (a .len) (a .answer .now) (omega arith)) (c .before .before .put-hexes .ensures)
+    let a = entry (at-put-hex₂ c) .args in
+    success-written (a .text .now) (at-put-hex₂ c .put-hex .last .0) (take (a .len) (a .answer .now)) (a .at) (a .code .0) (at-put-hex₂ c .put-hex .ensures)
+    (c .before .before .put-hexes .last .0) (a .len) (in-else1 c .if1 .left) (length-take-le (a .len) (a .answer .now) (omega arith)) (c .before .before .put-hexes .ensures)
 
 pub write-answer-spec : {M : Type 1} → statement M
 write-answer-spec =

@@ -9,13 +9,17 @@ use borrow.Author.Needs.{needs}
 use Rattle.run_records.proofs.write_line.Statement.{statement}
 use Rattle.run_records.proofs.write_line.Tie as tie
 
+-- the places that the answers read
+abbrev entry : tie.After-slice-known2 → tie.Start
+entry c = c .before .before .before .before .before .before
+
 write-answer-requires : tie.Need-write-answer-requires
 write-answer-requires c κs = search needs
 
 -- the place behind the response lies in the line's room
-room : (c : tie.After-slice-known2) → c .before .before .write-answer .result < c .before .before .before .before .before .before .args .at + lineMost
+room : (c : tie.After-slice-known2) → c .before .before .write-answer .result < entry c .args .at + lineMost
 room c =
-    let a = c .before .before .before .before .before .before .args in
+    let a = entry c .args in
     let r = take (a .len) (a .answer .now) in
     omega (arith, c .before .before .write-answer .ensures .0, text-fits (a .code .0) r (rw (length-take-le (a .len) (a .answer .now) (omega arith)) (omega arith)))
 
@@ -30,7 +34,7 @@ same-length c = search needs
 
 returns : tie.Need-returns
 returns c =
-    let a = c .before .before .before .before .before .before .args in
+    let a = entry c .args in
     let w = c .before .before .write-answer in
     line-written (a .text .now) (w .last .1 .1 .1 .0) (take (a .len) (a .answer .now)) (a .at) (w .result) (a .code .0) (w .ensures .0) (w .ensures .1)
 

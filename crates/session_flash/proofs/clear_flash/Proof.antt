@@ -8,6 +8,13 @@ use borrow.Author.Needs.{needs}
 use Rattle.session_flash.proofs.clear_flash.Statement.{statement}
 use Rattle.session_flash.proofs.clear_flash.Tie as tie
 
+-- the places that the answers read
+abbrev entry : tie.After-slice-known4 → tie.Start
+entry c = c .before .before .before .before .before .before .before .before .before .before
+
+abbrev at-clear-at : tie.After-slice-known4 → tie.After-clear-at
+at-clear-at c = c .before .before .before .before .before .before
+
 clear-at-requires : tie.Need-clear-at-requires
 clear-at-requires c κs = omega (arith, image-size)
 
@@ -22,8 +29,12 @@ same-length-2 c = search needs
 
 returns : tie.Need-returns
 returns c =
-    let a = c .before .before .before .before .before .before .before .before .before .before .args in
-    (c .before .before .before .before .before .before .clear-at .ensures ∙ cleared imageSize 16384 (a .image .now) image-size (c .before .before .before .before .before .before .before .before .before .before .pre .0), c .before .before .clear-at2 .ensures ∙ cleared hashSize 64 (a .hash .now) hash-size (c .before .before .before .before .before .before .before .before .before .before .pre .1))
+    let start = entry c in
+    let a = start .args in (
+      at-clear-at c .clear-at .ensures ∙ cleared imageSize 16384 (a .image .now) image-size (start .pre .0),
+      c .before .before .clear-at2 .ensures ∙ cleared hashSize 64
+          (a .hash .now) hash-size (start .pre .1),
+    )
 
 pub clear-flash-spec : {M : Type 1} → statement M
 clear-flash-spec =

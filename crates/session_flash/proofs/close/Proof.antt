@@ -15,13 +15,50 @@ use borrow.Author.Needs.{needs}
 use Rattle.session_flash.proofs.close.Statement.{statement}
 use Rattle.session_flash.proofs.close.Tie as tie
 
+-- the state at entry, with the buffers that are not lent
+abbrev whole : tie.Start → List ℕ → List ℕ → List ℕ → State
+whole c names committed staged = let a = c .args in stateOf (a .control) (a .table .now) names committed staged (a .image .now) (a .hash .now)
+
+-- the places that the answers read
+abbrev entry : tie.Then1 → tie.Start
+entry c = c .before .before .before .before .before
+
+abbrev entry₂ : tie.After-is-updated → tie.Start
+entry₂ c = c .before .before .before .before .before .before .before .before .before .before .before .before
+
+abbrev at-status : tie.After-is-updated → tie.After-status
+at-status c = c .before .before .before .before .before .before .before .before
+
+abbrev in-else1 : tie.After-is-updated → tie.Else1
+in-else1 c = c .before .before .before .before .before .before .before
+
+abbrev at-clear-row : tie.After-is-updated → tie.After-clear-row
+at-clear-row c = c .before .before .before .before .before
+
+abbrev at-clear-bit : tie.After-is-updated → tie.After-clear-bit
+at-clear-bit c = c .before .before
+
+abbrev at-is-updated : tie.After-emptied → tie.After-is-updated
+at-is-updated c = c .before .before .before .before .before .before .before .before .before
+
+abbrev at-is-updated₂ : tie.After-with-phase → tie.After-is-updated
+at-is-updated₂ c = c .before .before .before
+
+abbrev in-then2 : tie.After-emptied → tie.Then2
+in-then2 c = c .before .before .before .before .before .before .before .before
+
+abbrev at-clear-flash : tie.After-emptied → tie.After-clear-flash
+at-clear-flash c = c .before .before .before .before .before
+
 status-requires : tie.Need-status-requires
 status-requires c κs = search needs
 
 returns : tie.Need-returns
 returns c =
-    let a = c .before .before .before .before .before .args in
-    λ (t : ℕ) (n m g x : List ℕ). close-c0 (stateOf (a .control) (a .table .now) n m g (a .image .now) (a .hash .now)) (a .r) (a .e) (c .before .before .before .before .before .pre .0 .row-words) (c .before .before .before .before .before .pre .1 .0) t (sym (c .before .status .ensures) ∙ c .if1 .taken)
+    let start = entry c in
+    let a = start .args in
+    λ (t : ℕ) (n m g x : List ℕ). close-c0 (whole start n m g) (a .r) (a .e) (start .pre .0 .row-words) (start .pre .1 .0) t
+    (sym (c .before .status .ensures) ∙ c .if1 .taken)
 
 clear-row-requires : tie.Need-clear-row-requires
 clear-row-requires c κs = search needs
@@ -52,12 +89,19 @@ same-length-3 c = search needs
 
 returns-2 : tie.Need-returns-2
 returns-2 c =
-    let a = c .before .before .before .before .before .before .before .before .before .before .before .before .before .before .before .before .before .before .before .before .before .args in
+    let is-updated = at-is-updated c in
+    let start = entry₂ is-updated in
+    let a = start .args in
     λ (t : ℕ) (n m g x : List ℕ).
-    ap (λ (v : Control). (done, stateOf v (c .before .before .before .before .before .before .before .before .before .before .before .before .before .before .clear-row .last .0) n m g (c .before .before .before .before .before .clear-flash .last .0) (c .before .before .before .before .before .clear-flash .last .1 .0))) (c .emptied .ensures)
-    ∙ close-is (stateOf (a .control) (a .table .now) n m g (a .image .now) (a .hash .now)) (a .r) (a .e) (c .before .before .before .before .before .before .before .before .before .before .before .before .before .before .before .before .before .before .before .before .before .pre .0 .row-words) (c .before .before .before .before .before .before .before .before .before .before .before .before .before .before .before .before .before .before .before .before .before .pre .1 .0) t (c .before .before .before .before .before .before .before .before .before .before .before .before .before .before .clear-row .last .0) (c .before .before .before .before .before .before .before .before .before .before .before .clear-bit .result) _ (record { phase = Idle; image = c .before .before .before .before .before .clear-flash .last .0; hash = c .before .before .before .before .before .clear-flash .last .1 .0; imageLen = 0; hashLen = 0 })
-    (λ (z : statusIn (a .e .word) ≡ 1). c .before .before .before .before .before .before .before .before .before .before .before .before .before .before .before .before .if1 .left (c .before .before .before .before .before .before .before .before .before .before .before .before .before .before .before .before .before .status .ensures ∙ z)) (sym (c .before .before .before .before .before .before .before .before .before .is-updated .ensures ∙ ap₂ updatedBy (c .before .before .before .before .before .before .before .before .before .before .kind-of .ensures) (c .before .before .before .before .before .before .before .before .before .before .before .before .before .before .before .before .before .status .ensures)) ∙ c .before .before .before .before .before .before .before .before .if2 .taken) (c .before .before .before .before .before .before .before .before .before .before .before .before .before .before .clear-row .ensures) (c .before .before .before .before .before .before .before .before .before .before .before .clear-bit .ensures)
-    (λ i. record { phase = Idle; image = c .before .before .before .before .before .clear-flash .ensures .0 i; hash = c .before .before .before .before .before .clear-flash .ensures .1 i; imageLen = 0; hashLen = 0 })
+    ap (λ (v : Control). (done, stateOf v (at-clear-row is-updated .clear-row .last .0) n m g (at-clear-flash c .clear-flash .last .0) (at-clear-flash c .clear-flash .last .1 .0)))
+    (c .emptied .ensures)
+    ∙ close-is (whole start n m g) (a .r) (a .e) (start .pre .0 .row-words) (start .pre .1 .0) t
+    (at-clear-row is-updated .clear-row .last .0) (at-clear-bit is-updated .clear-bit .result) _
+    (record { phase = Idle; image = at-clear-flash c .clear-flash .last .0; hash = at-clear-flash c .clear-flash .last .1 .0; imageLen = 0; hashLen = 0 })
+    (λ (z : statusIn (a .e .word) ≡ 1). in-else1 is-updated .if1 .left (at-status is-updated .status .ensures ∙ z))
+    (sym (is-updated .is-updated .ensures ∙ ap₂ updatedBy (is-updated .before .kind-of .ensures) (at-status is-updated .status .ensures)) ∙ in-then2 c .if2 .taken)
+    (at-clear-row is-updated .clear-row .ensures) (at-clear-bit is-updated .clear-bit .ensures)
+    (λ i. record { phase = Idle; image = at-clear-flash c .clear-flash .ensures .0 i; hash = at-clear-flash c .clear-flash .ensures .1 i; imageLen = 0; hashLen = 0 })
 
 closed-phase-requires : tie.Need-closed-phase-requires
 closed-phase-requires c κs = search needs
@@ -70,12 +114,18 @@ same-length-4 c = search needs
 
 returns-3 : tie.Need-returns-3
 returns-3 c =
-    let a = c .before .before .before .before .before .before .before .before .before .before .before .before .before .before .before .args in
-    λ (t : ℕ) (n m g x : List ℕ). let s : State = (stateOf (a .control) (a .table .now) n m g (a .image .now) (a .hash .now)) in
-    ap (λ (v : Control). (done, stateOf v (c .before .before .before .before .before .before .before .before .clear-row .last .0) n m g (a .image .now) (a .hash .now))) (c .with-phase .ensures)
-    ∙ close-is s (a .r) (a .e) (c .before .before .before .before .before .before .before .before .before .before .before .before .before .before .before .pre .0 .row-words) (c .before .before .before .before .before .before .before .before .before .before .before .before .before .before .before .pre .1 .0) t (c .before .before .before .before .before .before .before .before .clear-row .last .0) (c .before .before .before .before .before .clear-bit .result) _ (withPhase (c .before .closed-phase .result) (s .flashGroup))
-    (λ (z : statusIn (a .e .word) ≡ 1). c .before .before .before .before .before .before .before .before .before .before .if1 .left (c .before .before .before .before .before .before .before .before .before .before .before .status .ensures ∙ z)) (sym (c .before .before .before .is-updated .ensures ∙ ap₂ updatedBy (c .before .before .before .before .kind-of .ensures) (c .before .before .before .before .before .before .before .before .before .before .before .status .ensures)) ∙ c .before .before .if2 .left) (c .before .before .before .before .before .before .before .before .clear-row .ensures) (c .before .before .before .before .before .clear-bit .ensures)
-    (ap (λ (p : Phase). withPhase p (s .flashGroup)) (c .before .closed-phase .ensures ∙ λ i. closedPhase (c .before .before .before .before .kind-of .ensures i) (c .before .before .before .before .before .before .before .before .before .before .before .status .ensures i) (a .control .phase)))
+    let is-updated = at-is-updated₂ c in
+    let start = entry₂ is-updated in
+    let a = start .args in
+    λ (t : ℕ) (n m g x : List ℕ). let s : State = whole start n m g in
+    ap (λ (v : Control). (done, stateOf v (at-clear-row is-updated .clear-row .last .0) n m g (a .image .now) (a .hash .now))) (c .with-phase .ensures)
+    ∙ close-is s (a .r) (a .e) (start .pre .0 .row-words) (start .pre .1 .0) t (at-clear-row is-updated .clear-row .last .0) (at-clear-bit is-updated .clear-bit .result) _
+    (withPhase (c .before .closed-phase .result) (s .flashGroup))
+    (λ (z : statusIn (a .e .word) ≡ 1). in-else1 is-updated .if1 .left (at-status is-updated .status .ensures ∙ z))
+    (sym (is-updated .is-updated .ensures ∙ ap₂ updatedBy (is-updated .before .kind-of .ensures) (at-status is-updated .status .ensures)) ∙ c .before .before .if2 .left)
+    (at-clear-row is-updated .clear-row .ensures) (at-clear-bit is-updated .clear-bit .ensures)
+    (ap (λ (p : Phase). withPhase p (s .flashGroup)) (c .before .closed-phase .ensures ∙ λ i. closedPhase (is-updated .before .kind-of .ensures i)
+    (at-status is-updated .status .ensures i) (a .control .phase)))
 
 pub close-spec : {M : Type 1} → statement M
 close-spec =

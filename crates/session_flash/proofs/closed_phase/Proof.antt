@@ -10,6 +10,13 @@ use borrow.Author.Needs.{needs}
 use Rattle.session_flash.proofs.closed_phase.Statement.{statement}
 use Rattle.session_flash.proofs.closed_phase.Tie as tie
 
+-- the places that the answers read
+abbrev entry : tie.After-enum-told4 → tie.Start
+entry c = c .before .before .before
+
+abbrev at-phase-if : tie.After-phase-if2 → tie.After-phase-if
+at-phase-if c = c .before .before .before
+
 phase-if-requires : tie.Need-phase-if-requires
 phase-if-requires c κs = search needs
 
@@ -39,12 +46,13 @@ returns-2 c = search needs
 
 returns-3 : tie.Need-returns-3
 returns-3 c =
-    let a = c .before .before .before .before .args in
-    c .phase-if2 .ensures ∙ ap (λ (p : Phase). cond (eqb (a .status) 2) Verified p) (c .before .before .before .phase-if .ensures) ∙ ap (λ (k : FlashKind). closedPhase k (a .status) (a .phase)) (sym (c .before .enum-told3 .given .1))
+    let a = at-phase-if c .before .args in
+    c .phase-if2 .ensures ∙ ap (λ (p : Phase). cond (eqb (a .status) 2) Verified p) (at-phase-if c .phase-if .ensures) ∙ ap
+    (λ (k : FlashKind). closedPhase k (a .status) (a .phase)) (sym (c .before .enum-told3 .given .1))
 
 returns-4 : tie.Need-returns-4
 returns-4 c =
-    let a = c .before .before .before .args in
+    let a = entry c .args in
     c .before .before .phase-if .ensures ∙ ap (λ (k : FlashKind). closedPhase k (a .status) (a .phase)) (sym (c .enum-told4 .given .1))
 
 returns-5 : tie.Need-returns-5

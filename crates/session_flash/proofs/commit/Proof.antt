@@ -20,13 +20,72 @@ use borrow.Author.Needs.{needs}
 use Rattle.session_flash.proofs.commit.Statement.{statement}
 use Rattle.session_flash.proofs.commit.Tie as tie
 
+-- the state at entry, with the buffers that are not lent
+abbrev whole : tie.Start → List ℕ → List ℕ → List ℕ → State
+whole c names committed staged = let a = c .args in stateOf (a .control) (a .table .now) names committed staged (a .image .now) (a .hash .now)
+
+-- the places that the answers read
+abbrev entry : tie.Then1 → tie.Start
+entry c = c .before .before .before .before .before
+
+abbrev entry₂ : tie.After-kind-of → tie.Start
+entry₂ c = c .before .before .before .before .before .before
+
+abbrev at-commit-fits : tie.After-kind-of → tie.After-commit-fits
+at-commit-fits c = c .before .before
+
+abbrev in-else1 : tie.After-enum-told → tie.Else1
+in-else1 c = c .before .before .before
+
+abbrev in-else1₂ : tie.After-enum-told2 → tie.Else1
+in-else1₂ c = c .before .before .before
+
+abbrev at-kind-of : tie.After-with-phase → tie.After-kind-of
+at-kind-of c = c .before .before .before .before .before .before .before .before .before .before .before
+
+abbrev at-kind-of₂ : tie.After-slice-known5 → tie.After-kind-of
+at-kind-of₂ c = c .before .before .before .before .before .before .before .before
+
+abbrev at-kind-of₃ : tie.After-emptied → tie.After-kind-of
+at-kind-of₃ c =
+    c .before .before .before .before .before .before .before .before .before .before .before .before .before .before
+    .before .before
+
+abbrev at-enum-told3 : tie.After-with-phase → tie.After-enum-told3
+at-enum-told3 c = c .before .before .before .before .before .before .before .before .before
+
+abbrev at-started : tie.After-with-phase → tie.After-started
+at-started c = c .before .before .before .before .before .before .before
+
+abbrev at-write-row : tie.After-with-phase → tie.After-write-row
+at-write-row c = c .before .before .before .before .before
+
+abbrev at-enum-told4 : tie.After-slice-known5 → tie.After-enum-told4
+at-enum-told4 c = c .before .before .before .before .before .before
+
+abbrev at-lifted2 : tie.After-slice-known5 → tie.After-lifted2
+at-lifted2 c = c .before .before .before
+
+abbrev at-enum-told5 : tie.After-emptied → tie.After-enum-told5
+at-enum-told5 c = c .before .before .before .before .before .before .before .before .before .before .before .before .before .before
+
+abbrev at-clear-flash : tie.After-emptied → tie.After-clear-flash
+at-clear-flash c = c .before .before .before .before .before .before .before .before .before .before .before
+
+abbrev at-with-status : tie.After-emptied → tie.After-with-status
+at-with-status c = c .before .before .before .before .before
+
+abbrev at-write-row3 : tie.After-emptied → tie.After-write-row3
+at-write-row3 c = c .before .before .before
+
 commit-fits-requires : tie.Need-commit-fits-requires
 commit-fits-requires c κs = search needs
 
 returns : tie.Need-returns
 returns c =
-    let a = c .before .before .before .before .before .args in
-    λ (n m g x : List ℕ). commit-cc (stateOf (a .control) (a .table .now) n m g (a .image .now) (a .hash .now)) (a .r) (a .e) (c .before .before .before .before .before .pre .0 .row-words) (c .before .before .before .before .before .pre .1 .0) (a .clock) (a .len) (a .rest) (sym (c .before .commit-fits .ensures) ∙ not-true _ (c .if1 .taken))
+    let a = entry c .args in
+    λ (n m g x : List ℕ). commit-cc (whole (entry c) n m g) (a .r) (a .e) (entry c .pre .0 .row-words) (entry c .pre .1 .0)
+    (a .clock) (a .len) (a .rest) (sym (c .before .commit-fits .ensures) ∙ not-true _ (c .if1 .taken))
 
 kind-of-requires : tie.Need-kind-of-requires
 kind-of-requires c κs = search needs
@@ -90,24 +149,35 @@ emptied-requires c κs = search needs
 
 returns-2 : tie.Need-returns-2
 returns-2 c =
-    let a = c .before .before .before .before .before .before .before .before .args in
-    λ (n m g x : List ℕ). commit-d5 (stateOf (a .control) (a .table .now) n m g (a .image .now) (a .hash .now)) (a .r) (a .e) (c .before .before .before .before .before .before .before .before .pre .0 .row-words) (c .before .before .before .before .before .before .before .before .pre .1 .0) (a .clock) (a .len) (a .rest) (sym (c .before .before .before .before .commit-fits .ensures) ∙ not-false _ (c .before .before .before .if1 .left)) (ap holdsBytes (sym (c .before .before .kind-of .ensures) ∙ c .enum-told .given .1))
+    let start = entry₂ (c .before .before) in
+    let a = start .args in
+    λ (n m g x : List ℕ). commit-d5 (whole start n m g) (a .r) (a .e) (start .pre .0 .row-words)
+    (start .pre .1 .0) (a .clock) (a .len) (a .rest) (sym (at-commit-fits (c .before .before) .commit-fits .ensures) ∙ not-false _ (in-else1 c .if1 .left))
+    (ap holdsBytes (sym (c .before .before .kind-of .ensures) ∙ c .enum-told .given .1))
 
 returns-3 : tie.Need-returns-3
 returns-3 c =
-    let a = c .before .before .before .before .before .before .before .before .args in
-    λ (n m g x : List ℕ). commit-d5 (stateOf (a .control) (a .table .now) n m g (a .image .now) (a .hash .now)) (a .r) (a .e) (c .before .before .before .before .before .before .before .before .pre .0 .row-words) (c .before .before .before .before .before .before .before .before .pre .1 .0) (a .clock) (a .len) (a .rest) (sym (c .before .before .before .before .commit-fits .ensures) ∙ not-false _ (c .before .before .before .if1 .left)) (ap holdsBytes (sym (c .before .before .kind-of .ensures) ∙ c .enum-told2 .given .1))
+    let start = entry₂ (c .before .before) in
+    let a = start .args in
+    λ (n m g x : List ℕ). commit-d5 (whole start n m g) (a .r) (a .e) (start .pre .0 .row-words)
+    (start .pre .1 .0) (a .clock) (a .len) (a .rest) (sym (at-commit-fits (c .before .before) .commit-fits .ensures) ∙ not-false _ (in-else1₂ c .if1 .left))
+    (ap holdsBytes (sym (c .before .before .kind-of .ensures) ∙ c .enum-told2 .given .1))
 
 same-length : tie.Need-same-length
 same-length c = search needs
 
 returns-4 : tie.Need-returns-4
 returns-4 c =
-    let a = c .before .before .before .before .before .before .before .before .before .before .before .before .before .before .before .before .before .args in
-    λ (n m g x : List ℕ). let s : State = (stateOf (a .control) (a .table .now) n m g (a .image .now) (a .hash .now)) in
-    ap (λ (v : Control). (done, stateOf v (c .before .before .before .before .before .write-row .last .0) n m g (a .image .now) (a .hash .now))) (c .with-phase .ensures)
-    ∙ verify-is s (a .r) (a .e) (c .before .before .before .before .before .before .before .before .before .before .before .before .before .before .before .before .before .pre .0 .row-words) (c .before .before .before .before .before .before .before .before .before .before .before .before .before .before .before .before .before .pre .1 .0) (a .clock) (a .len) (a .rest) (c .before .before .before .before .before .write-row .last .0) (withPhase (c .before .phase-if .result) (s .flashGroup)) (sym (c .before .before .before .before .before .before .before .before .before .before .before .before .before .commit-fits .ensures) ∙ not-false _ (c .before .before .before .before .before .before .before .before .before .before .before .before .if1 .left)) (sym (c .before .before .before .before .before .before .before .before .before .before .before .kind-of .ensures) ∙ c .before .before .before .before .before .before .before .before .before .enum-told3 .given .1)
-    (c .before .before .before .before .before .write-row .ensures ∙ ap (λ (y : Entry). block rowWords (a .r) .put (wordsOf y) (a .table .now)) (c .before .before .before .before .before .before .lifted .ensures ∙ ap (λ (y : Entry). lifted y (a .clock)) (c .before .before .before .before .before .before .before .started .ensures)))
+    let kind-of = at-kind-of c in
+    let start = entry₂ kind-of in
+    let a = start .args in
+    λ (n m g x : List ℕ). let s : State = whole start n m g in
+    ap (λ (v : Control). (done, stateOf v (at-write-row c .write-row .last .0) n m g (a .image .now) (a .hash .now))) (c .with-phase .ensures)
+    ∙ verify-is s (a .r) (a .e) (start .pre .0 .row-words) (start .pre .1 .0) (a .clock) (a .len) (a .rest) (at-write-row c .write-row .last .0)
+    (withPhase (c .before .phase-if .result) (s .flashGroup)) (sym (at-commit-fits kind-of .commit-fits .ensures) ∙ not-false _ (kind-of .before .if1 .left))
+    (sym (kind-of .kind-of .ensures) ∙ at-enum-told3 c .enum-told3 .given .1)
+    (at-write-row c .write-row .ensures ∙ ap (λ (y : Entry). block rowWords (a .r) .put (wordsOf y) (a .table .now))
+    (at-write-row c .before .lifted .ensures ∙ ap (λ (y : Entry). lifted y (a .clock)) (at-started c .started .ensures)))
     (ap (λ (p : Phase). withPhase p (s .flashGroup)) (c .before .phase-if .ensures ∙ ap (λ (y : Bool). cond y Uploading (a .control .phase)) (c .before .before .startable .ensures)))
 
 same-length-2 : tie.Need-same-length-2
@@ -115,9 +185,14 @@ same-length-2 c = search needs
 
 returns-5 : tie.Need-returns-5
 returns-5 c =
-    let a = c .before .before .before .before .before .before .before .before .before .before .before .before .before .before .args in
-    λ (n m g x : List ℕ). update-is (stateOf (a .control) (a .table .now) n m g (a .image .now) (a .hash .now)) (a .r) (a .e) (c .before .before .before .before .before .before .before .before .before .before .before .before .before .before .pre .0 .row-words) (c .before .before .before .before .before .before .before .before .before .before .before .before .before .before .pre .1 .0) (a .clock) (a .len) (a .rest) (c .before .before .write-row2 .last .0) (sym (c .before .before .before .before .before .before .before .before .before .before .commit-fits .ensures) ∙ not-false _ (c .before .before .before .before .before .before .before .before .before .if1 .left)) (sym (c .before .before .before .before .before .before .before .before .kind-of .ensures) ∙ c .before .before .before .before .before .before .enum-told4 .given .1)
-    (c .before .before .write-row2 .ensures ∙ ap (λ (y : Entry). block rowWords (a .r) .put (wordsOf y) (a .table .now)) (c .before .before .before .lifted2 .ensures ∙ ap (λ (y : Entry). lifted y (a .clock)) (c .before .before .before .before .started2 .ensures)))
+    let kind-of = at-kind-of₂ c in
+    let start = entry₂ kind-of in
+    let a = start .args in
+    λ (n m g x : List ℕ). update-is (whole start n m g) (a .r) (a .e) (start .pre .0 .row-words) (start .pre .1 .0)
+    (a .clock) (a .len) (a .rest) (c .before .before .write-row2 .last .0) (sym (at-commit-fits kind-of .commit-fits .ensures) ∙ not-false _ (kind-of .before .if1 .left))
+    (sym (kind-of .kind-of .ensures) ∙ at-enum-told4 c .enum-told4 .given .1)
+    (c .before .before .write-row2 .ensures ∙ ap (λ (y : Entry). block rowWords (a .r) .put (wordsOf y) (a .table .now))
+    (at-lifted2 c .lifted2 .ensures ∙ ap (λ (y : Entry). lifted y (a .clock)) (at-lifted2 c .before .started2 .ensures)))
 
 same-length-3 : tie.Need-same-length-3
 same-length-3 c = search needs
@@ -130,12 +205,23 @@ same-length-5 c = search needs
 
 returns-6 : tie.Need-returns-6
 returns-6 c =
-    let a = c .before .before .before .before .before .before .before .before .before .before .before .before .before .before .before .before .before .before .before .before .before .before .args in
+    let kind-of = at-kind-of₃ c in
+    let start = entry₂ kind-of in
+    let a = start .args in
     λ (n m g x : List ℕ).
-    ap (λ (v : Control). (done, stateOf v (c .before .before .before .write-row3 .last .0) n m g (c .before .before .before .before .before .before .before .before .before .before .before .clear-flash .last .0) (c .before .before .before .before .before .before .before .before .before .before .before .clear-flash .last .1 .0))) (c .emptied .ensures)
-    ∙ cleanup-is (stateOf (a .control) (a .table .now) n m g (a .image .now) (a .hash .now)) (a .r) (a .e) (c .before .before .before .before .before .before .before .before .before .before .before .before .before .before .before .before .before .before .before .before .before .before .pre .0 .row-words) (c .before .before .before .before .before .before .before .before .before .before .before .before .before .before .before .before .before .before .before .before .before .before .pre .1 .0) (a .clock) (a .len) (a .rest) (c .before .before .before .write-row3 .last .0) (record { phase = Idle; image = c .before .before .before .before .before .before .before .before .before .before .before .clear-flash .last .0; hash = c .before .before .before .before .before .before .before .before .before .before .before .clear-flash .last .1 .0; imageLen = 0; hashLen = 0 }) (sym (c .before .before .before .before .before .before .before .before .before .before .before .before .before .before .before .before .before .before .commit-fits .ensures) ∙ not-false _ (c .before .before .before .before .before .before .before .before .before .before .before .before .before .before .before .before .before .if1 .left)) (sym (c .before .before .before .before .before .before .before .before .before .before .before .before .before .before .before .before .kind-of .ensures) ∙ c .before .before .before .before .before .before .before .before .before .before .before .before .before .before .enum-told5 .given .1)
-    (c .before .before .before .write-row3 .ensures ∙ ap (λ (y : Entry). block rowWords (a .r) .put (wordsOf y) (a .table .now)) (c .before .before .before .before .lifted3 .ensures ∙ ap (λ (y : Entry). lifted y (a .clock)) (c .before .before .before .before .before .with-status .ensures)))
-    (λ i. record { phase = Idle; image = c .before .before .before .before .before .before .before .before .before .before .before .clear-flash .ensures .0 i; hash = c .before .before .before .before .before .before .before .before .before .before .before .clear-flash .ensures .1 i; imageLen = 0; hashLen = 0 })
+    ap (λ (v : Control). (done, stateOf v (at-write-row3 c .write-row3 .last .0) n m g (at-clear-flash c .clear-flash .last .0) (at-clear-flash c .clear-flash .last .1 .0))) (c .emptied .ensures)
+    ∙ cleanup-is (whole start n m g) (a .r) (a .e) (start .pre .0 .row-words) (start .pre .1 .0) (a .clock) (a .len)
+    (a .rest) (at-write-row3 c .write-row3 .last .0) (record {
+      phase = Idle;
+      image = at-clear-flash c .clear-flash .last .0;
+      hash = at-clear-flash c .clear-flash .last .1 .0;
+      imageLen = 0;
+      hashLen = 0;
+    }) (sym (at-commit-fits kind-of .commit-fits .ensures) ∙ not-false _ (kind-of .before .if1 .left))
+    (sym (kind-of .kind-of .ensures) ∙ at-enum-told5 c .enum-told5 .given .1)
+    (at-write-row3 c .write-row3 .ensures ∙ ap (λ (y : Entry). block rowWords (a .r) .put (wordsOf y) (a .table .now))
+    (at-write-row3 c .before .lifted3 .ensures ∙ ap (λ (y : Entry). lifted y (a .clock)) (at-with-status c .with-status .ensures)))
+    (λ i. record { phase = Idle; image = at-clear-flash c .clear-flash .ensures .0 i; hash = at-clear-flash c .clear-flash .ensures .1 i; imageLen = 0; hashLen = 0 })
 
 pub commit-spec : {M : Type 1} → statement M
 commit-spec =

@@ -14,6 +14,19 @@ use borrow.Author.Needs.{needs}
 use Rattle.session_flash.proofs.stat.Statement.{statement}
 use Rattle.session_flash.proofs.stat.Tie as tie
 
+-- the places that the answers read
+abbrev entry : tie.After-slice-known2 → tie.Start
+entry c = c .before .before .before .before .before .before .before .before .before
+
+abbrev at-kind-of : tie.After-slice-known2 → tie.After-kind-of
+at-kind-of c = c .before .before .before .before .before .before .before
+
+abbrev at-state-bits : tie.After-slice-known2 → tie.After-state-bits
+at-state-bits c = c .before .before .before .before .before
+
+abbrev at-lifted : tie.After-slice-known2 → tie.After-lifted
+at-lifted c = c .before .before .before
+
 kind-of-requires : tie.Need-kind-of-requires
 kind-of-requires c κs = search needs
 
@@ -34,11 +47,13 @@ same-length c = search needs
 
 returns : tie.Need-returns
 returns c =
-    let a = c .before .before .before .before .before .before .before .before .before .args in
+    let start = entry c in
+    let a = start .args in
     λ (n m g im h x : List ℕ). let s : State = stateOf (a .control) (a .table .now) n m g im h in
-    stat-is s (a .r) (a .e) (c .before .before .before .before .before .before .before .before .before .pre .0 .row-words) (c .before .before .before .before .before .before .before .before .before .pre .1) (a .clock) (c .before .before .before .before .before .state-bits .result) (c .before .before .before .before .before .before .flash-length .result) (c .before .before .write-row .last .0) (c .before .before .before .before .before .state-bits .ensures)
-    (c .before .before .before .before .before .before .flash-length .ensures (a .table .now) n m g im h ∙ ap (λ (k : FlashKind). flashLength k (s .flashGroup)) (c .before .before .before .before .before .before .before .kind-of .ensures))
-    (c .before .before .write-row .ensures ∙ ap (λ (y : Entry). block rowWords (a .r) .put (wordsOf y) (a .table .now)) (c .before .before .before .lifted .ensures))
+    stat-is s (a .r) (a .e) (start .pre .0 .row-words) (start .pre .1) (a .clock) (at-state-bits c .state-bits .result) (at-state-bits c .before .flash-length .result)
+    (c .before .before .write-row .last .0) (at-state-bits c .state-bits .ensures)
+    (at-state-bits c .before .flash-length .ensures (a .table .now) n m g im h ∙ ap (λ (k : FlashKind). flashLength k (s .flashGroup)) (at-kind-of c .kind-of .ensures))
+    (c .before .before .write-row .ensures ∙ ap (λ (y : Entry). block rowWords (a .r) .put (wordsOf y) (a .table .now)) (at-lifted c .lifted .ensures))
 
 pub stat-spec : {M : Type 1} → statement M
 stat-spec =

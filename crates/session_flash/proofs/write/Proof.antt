@@ -14,6 +14,38 @@ use borrow.Author.Needs.{needs}
 use Rattle.session_flash.proofs.write.Statement.{statement}
 use Rattle.session_flash.proofs.write.Tie as tie
 
+-- the state at entry, with the buffers that are not lent
+abbrev whole : tie.Start → List ℕ → List ℕ → List ℕ → State
+whole c names committed staged = let a = c .args in stateOf (a .control) (a .table .now) names committed staged (a .image .now) (a .hash .now)
+
+-- the places that the answers read
+abbrev entry : tie.After-kind-of → tie.Start
+entry c = c .before .before .before .before .before
+
+abbrev entry₂ : tie.After-write-whole-arg2 → tie.Start
+entry₂ c = c .before .before .before .before .before .before .before .before .before
+
+abbrev entry₃ : tie.After-write-whole-arg4 → tie.Start
+entry₃ c = c .before .before .before .before .before .before .before .before .before
+
+abbrev at-kind-of : tie.After-said → tie.After-kind-of
+at-kind-of c = c .before .before .before .before .before .before .before .before .before .before .before
+
+abbrev at-kind-of₂ : tie.After-said2 → tie.After-kind-of
+at-kind-of₂ c = c .before .before .before .before .before .before .before .before .before .before .before
+
+abbrev at-enum-told : tie.After-said → tie.After-enum-told
+at-enum-told c = c .before .before .before .before .before .before .before .before .before
+
+abbrev at-write-whole : tie.After-said → tie.After-write-whole
+at-write-whole c = c .before .before .before .before .before .before
+
+abbrev at-enum-told2 : tie.After-said2 → tie.After-enum-told2
+at-enum-told2 c = c .before .before .before .before .before .before .before .before .before
+
+abbrev at-write-whole2 : tie.After-said2 → tie.After-write-whole2
+at-write-whole2 c = c .before .before .before .before .before .before
+
 kind-of-requires : tie.Need-kind-of-requires
 kind-of-requires c κs = search needs
 
@@ -21,7 +53,7 @@ enum-told : tie.Need-enum-told
 enum-told c = search needs
 
 write-whole-requires : tie.Need-write-whole-requires
-write-whole-requires c κs = (c .before .before .before .before .before .before .before .before .before .pre .0, omega (arith, image-size))
+write-whole-requires c κs = (entry₂ c .pre .0, omega (arith, image-size))
 
 length-requires : tie.Need-length-requires
 length-requires c κs = search needs
@@ -33,7 +65,7 @@ enum-told-2 : tie.Need-enum-told-2
 enum-told-2 c = search needs
 
 write-whole-requires-2 : tie.Need-write-whole-requires-2
-write-whole-requires-2 c κs = (c .before .before .before .before .before .before .before .before .before .pre .0, omega (arith, hash-size))
+write-whole-requires-2 c κs = (entry₃ c .pre .0, omega (arith, hash-size))
 
 length-requires-2 : tie.Need-length-requires-2
 length-requires-2 c κs = search needs
@@ -58,12 +90,16 @@ same-length-2 c = search needs
 
 returns : tie.Need-returns
 returns c =
-    let a = c .before .before .before .before .before .before .before .before .before .before .before .before .before .before .before .before .args in
-    λ (n m g x : List ℕ). let s : State = (stateOf (a .control) (a .table .now) n m g (a .image .now) (a .hash .now)) in
-    write-is s (a .r) (a .e) (c .before .before .before .before .before .before .before .before .before .before .before .before .before .before .before .before .pre .0 .row-words) (c .before .before .before .before .before .before .before .before .before .before .before .before .before .before .before .before .pre .1 .0) (a .clock) (a .offset) (a .bytes .now) x imageSize (a .image .now) (a .control .«image_len») (λ (l : List ℕ) (j : ℕ). withImage l j (s .flashGroup))
-    (c .before .before .before .before .before .before .write-whole .result) (c .said .result) (c .before .before .before .before .before .before .write-whole .last .0) (c .before .before .before .before .before .before .write-whole .last .1 .0) (c .before .length .result) refl
-    (write-image (a .clock) (a .offset) (a .bytes .now) (rowRead (a .r) (a .e) s) (s .flashGroup) (kindOf (a .e .blob)) (sym (c .before .before .before .before .before .before .before .before .before .before .before .kind-of .ensures) ∙ c .before .before .before .before .before .before .before .before .before .enum-told .given .1)) (c .before .before .before .before .before .before .before .before .before .before .before .before .before .before .before .before .pre .1 .1 .0)
-    (c .before .before .before .before .before .before .write-whole .ensures .0) (c .said .ensures) (c .before .before .before .before .before .before .write-whole .ensures .1 .1) (c .before .before .before .before .before .before .write-whole .ensures .1 .0) (c .before .length .ensures)
+    let kind-of = at-kind-of c in
+    let start = entry kind-of in
+    let a = start .args in
+    λ (n m g x : List ℕ). let s : State = whole start n m g in
+    write-is s (a .r) (a .e) (start .pre .0 .row-words) (start .pre .1 .0) (a .clock) (a .offset) (a .bytes .now) x imageSize (a .image .now) (a .control .«image_len»)
+    (λ (l : List ℕ) (j : ℕ). withImage l j (s .flashGroup))
+    (at-write-whole c .write-whole .result) (c .said .result) (at-write-whole c .write-whole .last .0) (at-write-whole c .write-whole .last .1 .0) (c .before .length .result) refl
+    (write-image (a .clock) (a .offset) (a .bytes .now) (rowRead (a .r) (a .e) s) (s .flashGroup) (kindOf (a .e .blob))
+    (sym (kind-of .kind-of .ensures) ∙ at-enum-told c .enum-told .given .1)) (start .pre .1 .1 .0)
+    (at-write-whole c .write-whole .ensures .0) (c .said .ensures) (at-write-whole c .write-whole .ensures .1 .1) (at-write-whole c .write-whole .ensures .1 .0) (c .before .length .ensures)
 
 same-length-3 : tie.Need-same-length-3
 same-length-3 c = search needs
@@ -73,27 +109,37 @@ same-length-4 c = search needs
 
 returns-2 : tie.Need-returns-2
 returns-2 c =
-    let a = c .before .before .before .before .before .before .before .before .before .before .before .before .before .before .before .before .args in
-    λ (n m g x : List ℕ). let s : State = (stateOf (a .control) (a .table .now) n m g (a .image .now) (a .hash .now)) in
-    write-is s (a .r) (a .e) (c .before .before .before .before .before .before .before .before .before .before .before .before .before .before .before .before .pre .0 .row-words) (c .before .before .before .before .before .before .before .before .before .before .before .before .before .before .before .before .pre .1 .0) (a .clock) (a .offset) (a .bytes .now) x hashSize (a .hash .now) (a .control .«hash_len») (λ (l : List ℕ) (j : ℕ). withHash l j (s .flashGroup))
-    (c .before .before .before .before .before .before .write-whole2 .result) (c .said2 .result) (c .before .before .before .before .before .before .write-whole2 .last .0) (c .before .before .before .before .before .before .write-whole2 .last .1 .0) (c .before .length2 .result) refl
-    (write-hash (a .clock) (a .offset) (a .bytes .now) (rowRead (a .r) (a .e) s) (s .flashGroup) (kindOf (a .e .blob)) (sym (c .before .before .before .before .before .before .before .before .before .before .before .kind-of .ensures) ∙ c .before .before .before .before .before .before .before .before .before .enum-told2 .given .1)) (c .before .before .before .before .before .before .before .before .before .before .before .before .before .before .before .before .pre .1 .1 .1)
-    (c .before .before .before .before .before .before .write-whole2 .ensures .0) (c .said2 .ensures) (c .before .before .before .before .before .before .write-whole2 .ensures .1 .1) (c .before .before .before .before .before .before .write-whole2 .ensures .1 .0) (c .before .length2 .ensures)
+    let kind-of = at-kind-of₂ c in
+    let start = entry kind-of in
+    let a = start .args in
+    λ (n m g x : List ℕ). let s : State = whole start n m g in
+    write-is s (a .r) (a .e) (start .pre .0 .row-words) (start .pre .1 .0) (a .clock) (a .offset) (a .bytes .now) x hashSize (a .hash .now) (a .control .«hash_len»)
+    (λ (l : List ℕ) (j : ℕ). withHash l j (s .flashGroup))
+    (at-write-whole2 c .write-whole2 .result) (c .said2 .result) (at-write-whole2 c .write-whole2 .last .0) (at-write-whole2 c .write-whole2 .last .1 .0) (c .before .length2 .result) refl
+    (write-hash (a .clock) (a .offset) (a .bytes .now) (rowRead (a .r) (a .e) s) (s .flashGroup) (kindOf (a .e .blob))
+    (sym (kind-of .kind-of .ensures) ∙ at-enum-told2 c .enum-told2 .given .1)) (start .pre .1 .1 .1)
+    (at-write-whole2 c .write-whole2 .ensures .0) (c .said2 .ensures) (at-write-whole2 c .write-whole2 .ensures .1 .1) (at-write-whole2 c .write-whole2 .ensures .1 .0) (c .before .length2 .ensures)
 
 returns-3 : tie.Need-returns-3
 returns-3 c =
-    let a = c .before .before .before .before .before .before .before .args in
-    λ (n m g x : List ℕ). write-d5 (stateOf (a .control) (a .table .now) n m g (a .image .now) (a .hash .now)) (a .r) (a .e) (c .before .before .before .before .before .before .before .pre .0 .row-words) (c .before .before .before .before .before .before .before .pre .1 .0) (a .clock) (a .offset) (a .bytes .now) x (ap holdsBytes (sym (c .before .before .kind-of .ensures) ∙ c .enum-told3 .given .1))
+    let start = entry (c .before .before) in
+    let a = start .args in
+    λ (n m g x : List ℕ). write-d5 (whole start n m g) (a .r) (a .e) (start .pre .0 .row-words)
+    (start .pre .1 .0) (a .clock) (a .offset) (a .bytes .now) x (ap holdsBytes (sym (c .before .before .kind-of .ensures) ∙ c .enum-told3 .given .1))
 
 returns-4 : tie.Need-returns-4
 returns-4 c =
-    let a = c .before .before .before .before .before .before .before .args in
-    λ (n m g x : List ℕ). write-d5 (stateOf (a .control) (a .table .now) n m g (a .image .now) (a .hash .now)) (a .r) (a .e) (c .before .before .before .before .before .before .before .pre .0 .row-words) (c .before .before .before .before .before .before .before .pre .1 .0) (a .clock) (a .offset) (a .bytes .now) x (ap holdsBytes (sym (c .before .before .kind-of .ensures) ∙ c .enum-told4 .given .1))
+    let start = entry (c .before .before) in
+    let a = start .args in
+    λ (n m g x : List ℕ). write-d5 (whole start n m g) (a .r) (a .e) (start .pre .0 .row-words)
+    (start .pre .1 .0) (a .clock) (a .offset) (a .bytes .now) x (ap holdsBytes (sym (c .before .before .kind-of .ensures) ∙ c .enum-told4 .given .1))
 
 returns-5 : tie.Need-returns-5
 returns-5 c =
-    let a = c .before .before .before .before .before .before .before .args in
-    λ (n m g x : List ℕ). write-d5 (stateOf (a .control) (a .table .now) n m g (a .image .now) (a .hash .now)) (a .r) (a .e) (c .before .before .before .before .before .before .before .pre .0 .row-words) (c .before .before .before .before .before .before .before .pre .1 .0) (a .clock) (a .offset) (a .bytes .now) x (ap holdsBytes (sym (c .before .before .kind-of .ensures) ∙ c .enum-told5 .given .1))
+    let start = entry (c .before .before) in
+    let a = start .args in
+    λ (n m g x : List ℕ). write-d5 (whole start n m g) (a .r) (a .e) (start .pre .0 .row-words)
+    (start .pre .1 .0) (a .clock) (a .offset) (a .bytes .now) x (ap holdsBytes (sym (c .before .before .kind-of .ensures) ∙ c .enum-told5 .given .1))
 
 pub write-spec : {M : Type 1} → statement M
 write-spec =

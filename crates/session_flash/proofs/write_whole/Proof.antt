@@ -9,6 +9,16 @@ use borrow.Author.Needs.{needs}
 use Rattle.session_flash.proofs.write_whole.Statement.{statement}
 use Rattle.session_flash.proofs.write_whole.Tie as tie
 
+-- the places that the answers read
+abbrev entry : tie.After-slice-known4 → tie.Start
+entry c = c .before .before .before .before .before .before .before .before .before .before .before .before
+
+abbrev at-write-region : tie.After-slice-known4 → tie.After-write-region
+at-write-region c = c .before .before .before .before .before .before .before
+
+abbrev at-lifted : tie.After-slice-known4 → tie.After-lifted
+at-lifted c = c .before .before .before
+
 write-region-requires : tie.Need-write-region-requires
 write-region-requires c κs = search needs
 
@@ -26,11 +36,11 @@ same-length-2 c = search needs
 
 returns : tie.Need-returns
 returns c =
-    let a = c .before .before .before .before .before .before .before .before .before .before .before .before .args in (
-      c .before .before .before .before .before .before .before .write-region .ensures .0,
+    let a = entry c .args in (
+      at-write-region c .write-region .ensures .0,
       (
-        c .before .before .before .before .before .before .before .write-region .ensures .1 ∙ ap (λ (k : ℕ). regionBy (c .before .before .before .before .before .before .before .write-region .result) k (a .bytes .now) (a .region .now)) (zero-add (a .offset)),
-        c .before .before .write-row-if .ensures ∙ ap (λ (y : Entry). tableBy (c .before .before .before .before .before .before .before .write-region .result) (a .r) (wordsOf y) (a .table .now)) (c .before .before .before .lifted .ensures),
+        at-write-region c .write-region .ensures .1 ∙ ap (λ (k : ℕ). regionBy (at-write-region c .write-region .result) k (a .bytes .now) (a .region .now)) (zero-add (a .offset)),
+        c .before .before .write-row-if .ensures ∙ ap (λ (y : Entry). tableBy (at-write-region c .write-region .result) (a .r) (wordsOf y) (a .table .now)) (at-lifted c .lifted .ensures),
       ),
     )
 

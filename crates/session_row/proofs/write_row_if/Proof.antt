@@ -7,6 +7,13 @@ use borrow.Author.Needs.{needs}
 use Rattle.session_row.proofs.write_row_if.Statement.{statement}
 use Rattle.session_row.proofs.write_row_if.Tie as tie
 
+-- the places that the answers read
+abbrev entry : tie.After-slice-known2 → tie.Start
+entry c = c .before .before .before .before .before .before .before
+
+abbrev at-enum-told2 : tie.After-slice-known2 → tie.After-enum-told2
+at-enum-told2 c = c .before .before .before .before
+
 enum-told : tie.Need-enum-told
 enum-told c = search needs
 
@@ -23,7 +30,7 @@ same-length : tie.Need-same-length
 same-length c = search needs
 
 returns-2 : tie.Need-returns-2
-returns-2 c = let a = c .before .before .before .before .before .before .before .args in c .before .before .write-row .ensures ∙ ap (λ (x : Written). tableBy x (a .r) (wordsOf (a .e)) (a .table .now)) (sym (c .before .before .before .before .enum-told2 .given .1))
+returns-2 c = let a = entry c .args in c .before .before .write-row .ensures ∙ ap (λ (x : Written). tableBy x (a .r) (wordsOf (a .e)) (a .table .now)) (sym (at-enum-told2 c .enum-told2 .given .1))
 
 pub write-row-if-spec : {M : Type 1} → statement M
 write-row-if-spec =

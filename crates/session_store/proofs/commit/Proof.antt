@@ -5,7 +5,7 @@ use Prim.Native.Nat.{ℕ}
 use borrow.Author.Tests.{not-true, not-false}
 use Rattle.laws.specs.Ranges.{block}
 use Rattle.protocol.specs.Numbers.{rowWords}
-use Rattle.state.specs.State.{stateOf}
+use Rattle.state.specs.State.{State, stateOf}
 use Rattle.state.specs.declared.row.Entry.{Entry}
 use Rattle.state.specs.Entry.{wordsOf, lifted}
 use Rattle.session_store.proofs.Laws.{commit-cc, commit-d5, commit-is}
@@ -13,21 +13,54 @@ use borrow.Author.Needs.{needs}
 use Rattle.session_store.proofs.commit.Statement.{statement}
 use Rattle.session_store.proofs.commit.Tie as tie
 
+-- the state at entry, with the buffers that are not lent
+abbrev whole : tie.Start → List ℕ → List ℕ → List ℕ → State
+whole c names image hash = let a = c .args in stateOf (a .t1) (a .table .now) names (a .committed .now) (a .staged .now) image hash
+
+-- the places that the answers read
+abbrev entry : tie.Then1 → tie.Start
+entry c = c .before .before .before .before .before
+
+abbrev entry₂ : tie.After-writes → tie.Start
+entry₂ c = c .before .before .before .before .before .before
+
+abbrev at-commit-fits : tie.After-writes → tie.After-commit-fits
+at-commit-fits c = c .before .before
+
+abbrev at-writes : tie.After-set-bit → tie.After-writes
+at-writes c = c .before .before .before .before .before .before .before .before .before .before .before .before .before .before
+
+abbrev in-else2 : tie.After-set-bit → tie.Else2
+in-else2 c = c .before .before .before .before .before .before .before .before .before .before .before .before .before
+
+abbrev at-copy-region : tie.After-set-bit → tie.After-copy-region
+at-copy-region c = c .before .before .before .before .before .before .before .before .before .before
+
+abbrev at-with-clean : tie.After-set-bit → tie.After-with-clean
+at-with-clean c = c .before .before .before .before .before .before
+
+abbrev at-write-row : tie.After-set-bit → tie.After-write-row
+at-write-row c = c .before .before .before .before
+
 commit-fits-requires : tie.Need-commit-fits-requires
 commit-fits-requires c κs = search needs
 
 returns : tie.Need-returns
 returns c =
-    let a = c .before .before .before .before .before .args in
-    λ (n im h x : List ℕ). commit-cc (stateOf (a .t1) (a .table .now) n (a .committed .now) (a .staged .now) im h) (a .r) (a .e) (c .before .before .before .before .before .pre .0 .row-words) (c .before .before .before .before .before .pre .1 .0) (a .clock) (a .len) (a .rest) (sym (c .before .commit-fits .ensures) ∙ not-true _ (c .if1 .taken))
+    let a = entry c .args in
+    λ (n im h x : List ℕ). commit-cc (whole (entry c) n im h) (a .r) (a .e) (entry c .pre .0 .row-words) (entry c .pre .1 .0)
+    (a .clock) (a .len) (a .rest) (sym (c .before .commit-fits .ensures) ∙ not-true _ (c .if1 .taken))
 
 writes-requires : tie.Need-writes-requires
 writes-requires c κs = search needs
 
 returns-2 : tie.Need-returns-2
 returns-2 c =
-    let a = c .before .before .before .before .before .before .before .args in
-    λ (n im h x : List ℕ). commit-d5 (stateOf (a .t1) (a .table .now) n (a .committed .now) (a .staged .now) im h) (a .r) (a .e) (c .before .before .before .before .before .before .before .pre .0 .row-words) (c .before .before .before .before .before .before .before .pre .1 .0) (a .clock) (a .len) (a .rest) (sym (c .before .before .before .commit-fits .ensures) ∙ not-false _ (c .before .before .if1 .left)) (sym (c .before .writes .ensures) ∙ not-true _ (c .if2 .taken))
+    let start = entry₂ (c .before) in
+    let a = start .args in
+    λ (n im h x : List ℕ). commit-d5 (whole start n im h) (a .r) (a .e) (start .pre .0 .row-words)
+    (start .pre .1 .0) (a .clock) (a .len) (a .rest) (sym (at-commit-fits (c .before) .commit-fits .ensures) ∙ not-false _ (c .before .before .if1 .left))
+    (sym (c .before .writes .ensures) ∙ not-true _ (c .if2 .taken))
 
 cast-k : tie.Need-cast-k
 cast-k c = search needs
@@ -67,10 +100,15 @@ same-length-2 c = search needs
 
 returns-3 : tie.Need-returns-3
 returns-3 c =
-    let a = c .before .before .before .before .before .before .before .before .before .before .before .before .before .before .before .before .before .before .before .before .args in
-    λ (n im h x : List ℕ). commit-is (stateOf (a .t1) (a .table .now) n (a .committed .now) (a .staged .now) im h) (a .r) (a .e) (c .before .before .before .before .before .before .before .before .before .before .before .before .before .before .before .before .before .before .before .before .pre .0 .row-words) (c .before .before .before .before .before .before .before .before .before .before .before .before .before .before .before .before .before .before .before .before .pre .1 .0) (a .clock) (a .len) (a .rest)
-    (c .before .before .before .before .write-row .last .0) (c .before .before .before .before .before .before .before .before .before .before .copy-region .last .0) (c .set-bit .result) (sym (c .before .before .before .before .before .before .before .before .before .before .before .before .before .before .before .before .commit-fits .ensures) ∙ not-false _ (c .before .before .before .before .before .before .before .before .before .before .before .before .before .before .before .if1 .left)) (sym (c .before .before .before .before .before .before .before .before .before .before .before .before .before .before .writes .ensures) ∙ not-false _ (c .before .before .before .before .before .before .before .before .before .before .before .before .before .if2 .left))
-    (c .before .before .before .before .write-row .ensures ∙ ap (λ (y : Entry). block rowWords (a .r) .put (wordsOf y) (a .table .now)) (c .before .before .before .before .before .lifted .ensures ∙ ap (λ (y : Entry). lifted y (a .clock)) (c .before .before .before .before .before .before .with-clean .ensures))) (c .before .before .before .before .before .before .before .before .before .before .copy-region .ensures) (c .set-bit .ensures)
+    let writes = at-writes c in
+    let start = entry₂ writes in
+    let a = start .args in
+    λ (n im h x : List ℕ). commit-is (whole start n im h) (a .r) (a .e) (start .pre .0 .row-words) (start .pre .1 .0)
+    (a .clock) (a .len) (a .rest)
+    (at-write-row c .write-row .last .0) (at-copy-region c .copy-region .last .0) (c .set-bit .result) (sym (at-commit-fits writes .commit-fits .ensures) ∙ not-false _
+    (writes .before .if1 .left)) (sym (writes .writes .ensures) ∙ not-false _ (in-else2 c .if2 .left))
+    (at-write-row c .write-row .ensures ∙ ap (λ (y : Entry). block rowWords (a .r) .put (wordsOf y) (a .table .now))
+    (at-write-row c .before .lifted .ensures ∙ ap (λ (y : Entry). lifted y (a .clock)) (at-with-clean c .with-clean .ensures))) (at-copy-region c .copy-region .ensures) (c .set-bit .ensures)
 
 pub commit-spec : {M : Type 1} → statement M
 commit-spec =

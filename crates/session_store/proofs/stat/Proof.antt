@@ -12,6 +12,19 @@ use borrow.Author.Needs.{needs}
 use Rattle.session_store.proofs.stat.Statement.{statement}
 use Rattle.session_store.proofs.stat.Tie as tie
 
+-- the places that the answers read
+abbrev entry : tie.After-slice-known2 → tie.Start
+entry c = c .before .before .before .before .before .before .before .before .before .before
+
+abbrev at-writes : tie.After-slice-known2 → tie.After-writes
+at-writes c = c .before .before .before .before .before .before .before
+
+abbrev at-state-bits : tie.After-slice-known2 → tie.After-state-bits
+at-state-bits c = c .before .before .before .before .before
+
+abbrev at-lifted : tie.After-slice-known2 → tie.After-lifted
+at-lifted c = c .before .before .before
+
 cast-seen-length : tie.Need-cast-seen-length
 cast-seen-length c = search needs
 
@@ -35,9 +48,12 @@ same-length c = search needs
 
 returns : tie.Need-returns
 returns c =
-    let a = c .before .before .before .before .before .before .before .before .before .before .args in
-    λ (n cm g im h x : List ℕ). stat-is (stateOf (a .control) (a .table .now) n cm g im h) (a .r) (a .e) (c .before .before .before .before .before .before .before .before .before .before .pre .0 .row-words) (c .before .before .before .before .before .before .before .before .before .before .pre .1) (a .clock) (c .before .before .before .before .before .state-bits .result) (c .before .before .before .before .before .before .seen-length .result) (c .before .before .before .before .before .before .before .writes .result) (c .before .before .write-row .last .0)
-    (c .before .before .before .before .before .before .before .writes .ensures) (c .before .before .before .before .before .state-bits .ensures) (c .before .before .before .before .before .before .seen-length .ensures) (c .before .before .write-row .ensures ∙ ap (λ (y : Entry). block rowWords (a .r) .put (wordsOf y) (a .table .now)) (c .before .before .before .lifted .ensures))
+    let start = entry c in
+    let a = start .args in
+    λ (n cm g im h x : List ℕ). stat-is (stateOf (a .control) (a .table .now) n cm g im h) (a .r) (a .e) (start .pre .0 .row-words) (start .pre .1) (a .clock)
+    (at-state-bits c .state-bits .result) (at-state-bits c .before .seen-length .result) (at-writes c .writes .result) (c .before .before .write-row .last .0)
+    (at-writes c .writes .ensures) (at-state-bits c .state-bits .ensures) (at-state-bits c .before .seen-length .ensures)
+    (c .before .before .write-row .ensures ∙ ap (λ (y : Entry). block rowWords (a .r) .put (wordsOf y) (a .table .now)) (at-lifted c .lifted .ensures))
 
 pub stat-spec : {M : Type 1} → statement M
 stat-spec =

@@ -4,6 +4,10 @@ use borrow.Author.Needs.{needs}
 use Rattle.sound_rows.proofs.rows_apart.Statement.{statement}
 use Rattle.sound_rows.proofs.rows_apart.Tie as tie
 
+-- the places that the answers read
+abbrev at-read-row2 : tie.After-has2 → tie.After-read-row2
+at-read-row2 c = c .before .before .before .before .before .before .before .before
+
 read-row-requires : tie.Need-read-row-requires
 read-row-requires c κs = search needs
 
@@ -24,7 +28,7 @@ has-requires-2 c κs = search needs
 
 returns : tie.Need-returns
 unfolding rowsApart rowsClash
-returns c = λ s. rw (c .before .before .before .before .before .before .before .before .before .read-row .ensures, c .before .before .before .before .before .before .before .before .read-row2 .ensures, c .before .has .ensures, c .has2 .ensures)
+returns c = λ s. rw (c .has2 .ensures, c .before .has .ensures, at-read-row2 c .read-row2 .ensures, at-read-row2 c .before .read-row .ensures)
 
 pub rows-apart-spec : {M : Type 1} → statement M
 rows-apart-spec =

@@ -7,6 +7,13 @@ use borrow.Author.Needs.{needs}
 use Rattle.sound_rows.proofs.used_row.Statement.{statement}
 use Rattle.sound_rows.proofs.used_row.Tie as tie
 
+-- the places that the answers read
+abbrev entry : tie.After-store-row → tie.Start
+entry c = c .before .before .before .before .before .before .before .before
+
+abbrev entry₂ : tie.After-flash-row → tie.Start
+entry₂ c = c .before .before .before .before .before
+
 cast-if1 : tie.Need-cast-if1
 cast-if1 c = search needs
 
@@ -24,14 +31,19 @@ store-row-requires c κs = search needs
 
 returns : tie.Need-returns
 unfolding usedRow
-returns c = λ u t n cm g i h. let b = c .before .before .before .before .before .before .before .before .args .e .blob in rw (lt-ltb b 16 (omega arith), c .store-row .ensures (slotAt b (stateOf (c .before .before .before .before .before .before .before .before .args .control) t n cm g i h)) (c .before .before .has .ensures) (c .before .has2 .ensures))
+returns c =
+    λ u t n cm g i h. let b = entry c .args .e .blob in rw (
+      lt-ltb b 16 (omega arith),
+      c .store-row .ensures (slotAt b (stateOf (entry c .args .control) t n cm g i h))
+          (c .before .before .has .ensures) (c .before .has2 .ensures),
+    )
 
 flash-row-requires : tie.Need-flash-row-requires
 flash-row-requires c κs = search needs
 
 returns-2 : tie.Need-returns-2
 unfolding usedRow
-returns-2 c = λ u t n cm g i h. rw (le-ltb (c .before .before .before .before .before .args .e .blob) 16 (omega arith), c .flash-row .ensures)
+returns-2 c = λ u t n cm g i h. rw (le-ltb (entry₂ c .args .e .blob) 16 (omega arith), c .flash-row .ensures)
 
 pub used-row-spec : {M : Type 1} → statement M
 used-row-spec =

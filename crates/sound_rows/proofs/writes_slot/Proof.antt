@@ -4,6 +4,10 @@ use borrow.Author.Needs.{needs}
 use Rattle.sound_rows.proofs.writes_slot.Statement.{statement}
 use Rattle.sound_rows.proofs.writes_slot.Tie as tie
 
+-- the places that the answers read
+abbrev at-row : tie.After-writes → tie.After-read-row
+at-row c = c .before .before .before
+
 read-row-requires : tie.Need-read-row-requires
 read-row-requires c κs = search needs
 
@@ -15,7 +19,7 @@ writes-requires c κs = search needs
 
 returns : tie.Need-returns
 unfolding writesSlot
-returns c = λ s. rw (c .before .before .before .read-row .ensures, c .before .before .has .ensures, c .writes .ensures)
+returns c = λ s. rw (c .writes .ensures, c .before .before .has .ensures, at-row c .read-row .ensures)
 
 pub writes-slot-spec : {M : Type 1} → statement M
 writes-slot-spec =

@@ -1,9 +1,25 @@
 -- `slot_ok`: a used slot or an unused one, as the mask says.
-use Rattle.state.specs.State.{stateOf}
+use Prim.Native.Nat.{ℕ}
+use mathlib.Core.List.{List}
+use Rattle.state.specs.State.{State, stateOf}
 use Rattle.state.specs.Soundness.{slotAt, slotOk}
 use borrow.Author.Needs.{needs}
 use Rattle.sound_slots.proofs.slot_ok.Statement.{statement}
 use Rattle.sound_slots.proofs.slot_ok.Tie as tie
+
+-- the state at entry, with the buffers that are not lent
+abbrev whole : tie.Start → List ℕ → List ℕ → State
+whole c image hash = let a = c .args in stateOf (a .control) (a .table .now) (a .names .now) (a .committed .now) (a .staged .now) image hash
+
+-- the places that the answers read
+abbrev entry : tie.After-has → tie.Start
+entry c = c .before .before .before .before .before .before .before .before
+
+abbrev at-bit-of : tie.After-unused-slot → tie.After-bit-of
+at-bit-of c = c .before .before .before
+
+abbrev at-has : tie.After-used-slot → tie.After-has
+at-has c = c .before .before .before
 
 mul-committed-len : tie.Need-mul-committed-len
 mul-committed-len c = search needs
@@ -34,14 +50,20 @@ used-slot-requires c κs = search needs
 
 returns : tie.Need-returns
 unfolding slotOk
-returns c = λ i h. let s = stateOf (c .before .before .before .before .before .before .before .before .before .before .before .args .control) (c .before .before .before .before .before .before .before .before .before .before .before .args .table .now) (c .before .before .before .before .before .before .before .before .before .before .before .args .names .now) (c .before .before .before .before .before .before .before .before .before .before .before .args .committed .now) (c .before .before .before .before .before .before .before .before .before .before .before .args .staged .now) i h in rw (← c .before .before .before .has .ensures, c .before .before .if1 .taken, ← c .before .before .before .before .bit-of .ensures, ← c .before .has-writer .ensures s) (c .used-slot .ensures (slotAt (c .before .before .before .before .before .before .before .before .before .before .before .args .k) s))
+returns c =
+    let has = at-has c in
+    let start = entry has in
+    λ i h. let s = whole start i h in
+    rw (← has .has .ensures, c .before .before .if1 .taken, ← has .before .bit-of .ensures, ← c .before .has-writer .ensures s) (c .used-slot .ensures (slotAt (start .args .k) s))
 
 unused-slot-requires : tie.Need-unused-slot-requires
 unused-slot-requires c κs = search needs
 
 returns-2 : tie.Need-returns-2
 unfolding slotOk
-returns-2 c = λ i h. rw (← c .before .before .has .ensures, c .before .if1 .left, ← c .before .before .before .bit-of .ensures) (c .unused-slot .ensures (slotAt (c .before .before .before .before .before .before .before .before .before .before .args .k) (stateOf (c .before .before .before .before .before .before .before .before .before .before .args .control) (c .before .before .before .before .before .before .before .before .before .before .args .table .now) (c .before .before .before .before .before .before .before .before .before .before .args .names .now) (c .before .before .before .before .before .before .before .before .before .before .args .committed .now) (c .before .before .before .before .before .before .before .before .before .before .args .staged .now) i h)))
+returns-2 c =
+    λ i h. rw (← c .before .before .has .ensures, c .before .if1 .left, ← at-bit-of c .bit-of .ensures)
+    (c .unused-slot .ensures (slotAt (entry (c .before .before) .args .k) (whole (entry (c .before .before)) i h)))
 
 pub slot-ok-spec : {M : Type 1} → statement M
 slot-ok-spec =

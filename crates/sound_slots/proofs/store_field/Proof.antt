@@ -6,6 +6,10 @@ use borrow.Author.Needs.{needs}
 use Rattle.sound_slots.proofs.store_field.Statement.{statement}
 use Rattle.sound_slots.proofs.store_field.Tie as tie
 
+-- the places that the answers read
+abbrev at-first-zero : tie.After-all-zero → tie.After-first-zero
+at-first-zero c = c .before .before .before .before
+
 first-zero-requires : tie.Need-first-zero-requires
 first-zero-requires c κs = search needs
 
@@ -28,7 +32,7 @@ all-zero-requires : tie.Need-all-zero-requires
 all-zero-requires c κs = search needs
 
 returns : tie.Need-returns
-returns c = field-is _ _ _ _ (omega arith) (c .before .before .before .before .first-zero .ensures .0) (omega arith) (c .before .before .store-name .ensures) (c .all-zero .ensures)
+returns c = field-is _ _ _ _ (omega arith) (at-first-zero c .first-zero .ensures .0) (omega arith) (c .before .before .store-name .ensures) (c .all-zero .ensures)
 
 pub store-field-spec : {M : Type 1} → statement M
 store-field-spec =

@@ -10,6 +10,10 @@ use borrow.Author.Needs.{needs}
 use Rattle.sound_slots.proofs.used_slot.Statement.{statement}
 use Rattle.sound_slots.proofs.used_slot.Tie as tie
 
+-- the places that the answers read
+abbrev entry : tie.After-store-field → tie.Start
+entry c = c .before .before .before
+
 mul-at : tie.Need-mul-at
 mul-at c = search needs
 
@@ -35,7 +39,7 @@ store-field-requires c κs = let l = c .before .before .args .names .now in let 
 
 returns : tie.Need-returns
 unfolding usedSlot nameSize slotSize
-returns c = λ b. rw (c .store-field .ensures, lent-part (c .before .before .before .args .k * 32) 32 (c .before .before .before .args .names .now))
+returns c = λ b. rw (c .store-field .ensures, lent-part (entry c .args .k * 32) 32 (entry c .args .names .now))
 
 pub used-slot-spec : {M : Type 1} → statement M
 used-slot-spec =

@@ -6,6 +6,10 @@ use borrow.Author.Needs.{needs}
 use Rattle.state.proofs.row.read_row.Statement.{statement}
 use Rattle.state.proofs.row.read_row.Tie as tie
 
+-- the places that the answers read
+abbrev entry : tie.After-shared-slice-known4 → tie.Start
+entry c = c .before .before .before .before
+
 mul-at : tie.Need-mul-at
 mul-at c = search needs
 
@@ -43,7 +47,7 @@ shared-slice-read-t18 : tie.Need-shared-slice-read-t18
 shared-slice-read-t18 c = search needs
 
 returns : tie.Need-returns
-returns c = row-read (c .before .before .before .before .args .table .now) (c .before .before .before .before .args .r * 4) (omega arith)
+returns c = row-read (entry c .args .table .now) (entry c .args .r * 4) (omega arith)
 
 pub read-row-spec : {M : Type 1} → statement M
 read-row-spec =
