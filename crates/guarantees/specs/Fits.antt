@@ -7,11 +7,10 @@ use Prim.Native.Nat.{ℕ, zero, suc, _+_, _≤_}
 use native.Mathlib.Omega.{arith}
 use lib.Dec.{eqb, ltb}
 use lib.ListN.{length, getD, length-append, length-take}
-use Rattle.laws.specs.Find.{first}
 use Rattle.laws.specs.Bytes.{bytesOf, text}
 use Rattle.laws.specs.Ranges.{part}
 use Rattle.crc.specs.Crc.{crc}
-use Rattle.protocol.specs.Numbers.{readMost, stateCommitted, notFound, invalid, outOfRange, rowCount, slotCount, nameSize, answerSize, slotSize, imageSize, hashSize, writeOnly, running}
+use Rattle.protocol.specs.Numbers.{readMost, stateCommitted, notFound, invalid, outOfRange, slotCount, nameSize, answerSize, slotSize, imageSize, hashSize, writeOnly, running}
 use Rattle.protocol.specs.Names.{base, flashFolder, flashWord, flashName, kindOf, flashNumber}
 use Rattle.protocol.specs.Decode.{decoded, numberOf}
 use Rattle.protocol.specs.Frame.{Reply, refused, done, reply, framed, statFields}
@@ -28,9 +27,11 @@ use Rattle.state.specs.Soundness.{slotAt, isSound}
 use Rattle.rules.specs.Store.{readStore, stored, writeStore, commitWriting, commitStore, onStore, seenLength}
 use Rattle.rules.specs.Command.{Command, read, write, commit, stat, close, writeMeta, endJob, commitFits, Out, stateBits}
 use Rattle.rules.specs.Flash.{writeFlash, startable, verifyJob, updateJob, commitKind, commitFlash, closeFlash, jobEnds, onFlash, flashLength}
-use Rattle.rules.specs.Session.{onPart, Address, by, job, meant, onFound, onSession, statPart, statRow}
+use Rattle.state.specs.declared.row.Wanted.{Wanted}
+use Rattle.state.specs.declared.row.Wanted.the-variants.{Id, OnBlob, OnFlash}
+use Rattle.rules.specs.Session.{onPart, onFound, onSession, statPart, statRow, rowFound}
 use Rattle.rules.specs.Sweep.{swept}
-use Rattle.rules.specs.Open.{slotNamed, rowOn, freeRowIn, freeSlotIn, opened, openNew, openFree, openHeld, openNamed, openStore, flashListed, openFlashFree, openFlashQuiet, openFlashListed, openFlash, openBlob, deleteQuiet, deleteNamed}
+use Rattle.rules.specs.Open.{slotNamed, freeRowIn, freeSlotIn, opened, openNew, openFree, openHeld, openNamed, openStore, flashListed, openFlashFree, openFlashQuiet, openFlashListed, openFlash, openBlob, deleteQuiet, deleteNamed}
 use Rattle.rules.specs.Open.{deleteBlob, statSlot, statNamed, statKind, statBlob}
 use Rattle.rules.specs.Listing.{only, listedFlash, committedNames, flashNames, listed, enumerated, count}
 use Rattle.rules.specs.Respond.{Effect, effectOf, unsound, answered, respond}
@@ -145,14 +146,15 @@ short-part : (p : Place) (t : ℕ) (c : Command) (r : Row) (b : Body p) → Shor
 short-part (slot k) t c r b = short-store r b t c
 short-part flash t c r b = short-flash r b (kindOf (blobOf r)) t c
 
-short-found : (o : Option ℕ) (a : Address) (t : ℕ) (c : Command) (s : State) → Short (onFound o a t c s .0)
-short-found none (by id) t c s = tt
-short-found none job t c s = tt
+short-found : (o : Option ℕ) (a : Wanted) (t : ℕ) (c : Command) (s : State) → Short (onFound o a t c s .0)
+short-found none (Id id) t c s = tt
+short-found none (OnBlob b) t c s = tt
+short-found none OnFlash t c s = tt
 short-found (some r) a t c s = short-part (placeOf (blob r s)) t c (inRow r .get s) (inBody (placeOf (blob r s)) .get s)
 
-short-session : (a : Address) (t : ℕ) (c : Command) (s : State) → Short (onSession a t c s .0)
+short-session : (a : Wanted) (t : ℕ) (c : Command) (s : State) → Short (onSession a t c s .0)
 unfolding onSession
-short-session a t c s = short-found (first (meant a s) rowCount) a t c s
+short-session a t c s = short-found (rowFound a s) a t c s
 
 -- ---- Open, Delete, Stat
 short-opened : (p : Place) (r b flags clean t : ℕ) (body : Body p) (s : State) → Short (opened p r b flags clean t body s .0)
@@ -178,7 +180,7 @@ Brief o = Short (o .0)
 
 short-named : (o : Option ℕ) (n : List ℕ) (flags t : ℕ) (s : State) → Short (openNamed o n flags t s .0)
 short-named none n flags t s = cond-has Brief (writesWith flags) (openNew (freeRowIn s) (freeSlotIn s) n flags t s) (refused notFound, s) (short-new (freeRowIn s) (freeSlotIn s) n flags t s) tt
-short-named (some k) n flags t s = short-held (rowOn k s) k flags t s
+short-named (some k) n flags t s = short-held (rowFound (OnBlob k) s) k flags t s
 
 short-open-store : (n : List ℕ) (flags t : ℕ) (s : State) → Short (openStore n flags t s .0)
 unfolding openStore
@@ -193,7 +195,7 @@ short-flash-quiet none k t s = short-flash-free (freeRowIn s) k t s
 short-flash-quiet (some q) k t s = tt
 
 short-flash-listed : (y : Bool) (k : FlashKind) (t : ℕ) (s : State) → Short (openFlashListed y k t s .0)
-short-flash-listed true k t s = short-flash-quiet (first (meant job s) rowCount) k t s
+short-flash-listed true k t s = short-flash-quiet (rowFound OnFlash s) k t s
 short-flash-listed false k t s = tt
 
 short-open-flash : (k : FlashKind) (flags t : ℕ) (s : State) → Short (openFlash k flags t s .0)
@@ -217,7 +219,7 @@ short-delete (Store at len) m s = named (slotNamed (part at len m) s)
 
     named : (o : Option ℕ) → Short (deleteNamed o s .0)
     named none = tt
-    named (some k) = quiet (rowOn k s) k
+    named (some k) = quiet (rowFound (OnBlob k) s) k
 short-delete (Flash k) m s = tt
 short-delete Base m s = tt
 short-delete Unknown m s = tt
@@ -240,8 +242,8 @@ short-stat (Store at len) m s = named (slotNamed (part at len m) s)
 
     named : (o : Option ℕ) → Short (statNamed o s)
     named none = tt
-    named (some k) = there (rowOn k s) k
-short-stat (Flash k) m s = cond-has Short (flashListed k (s .flashGroup .phase)) (statKind (rowOn (flashNumber k) s) k s) (refused notFound) (there (rowOn (flashNumber k) s)) tt
+    named (some k) = there (rowFound (OnBlob k) s) k
+short-stat (Flash k) m s = cond-has Short (flashListed k (s .flashGroup .phase)) (statKind (rowFound (OnBlob (flashNumber k)) s) k s) (refused notFound) (there (rowFound (OnBlob (flashNumber k)) s)) tt
   where
     there : (o : Option ℕ) → Short (statKind o k s)
     there none = stat-short 0 (flashLength k (s .flashGroup))

@@ -26,9 +26,10 @@ use Rattle.state.specs.Soundness.{isSound}
 use Rattle.state.specs.Fresh.{fresh-sound}
 use Rattle.rules.specs.Command.{endJob}
 use Rattle.rules.specs.Flash.{verifyJob, updateJob, commitKind, commitFlash, closedFlash, closeFlash, jobEnds, onFlash}
-use Rattle.rules.specs.Session.{job, onSession}
+use Rattle.state.specs.declared.row.Wanted.the-variants.{OnFlash}
+use Rattle.rules.specs.Session.{onSession, rowFound}
 use Rattle.rules.specs.Sweep.{swept}
-use Rattle.rules.specs.Open.{rowOn, freeRowIn, freshFrom, opened, openFlash, openBlob, flashListed, openedFlash}
+use Rattle.rules.specs.Open.{freeRowIn, freshFrom, opened, openFlash, openBlob, flashListed, openedFlash}
 use Rattle.rules.specs.Respond.{Effect, answered}
 use Rattle.rules.specs.Laws.{respond-is, job-is}
 use Rattle.rules.specs.Messages.{askOpen, askCommit, askClose, commit-decoded, close-decoded}
@@ -115,35 +116,35 @@ updateRuns = oneSession 2 updateBlob running 7 Verified 3
 
 -- ---- what each event does
 opens-image : (m : List ℕ) → answered (Open writeOnly (Flash Image)) 1 m fresh .1 ≡ imageOpen
-unfolding answered swept openBlob openFlash flashListed first freeRowIn freshFrom opened openedFlash fresh
+unfolding answered swept openBlob openFlash flashListed rowFound first freeRowIn freshFrom opened openedFlash fresh
 opens-image m = refl
 
 closes-image : (m : List ℕ) → answered (Close 0) 2 m imageOpen .1 ≡ imageClosed
-unfolding answered onSession first onFlash kindOf closeFlash closedFlash
+unfolding answered onSession rowFound first onFlash kindOf closeFlash closedFlash
 closes-image m = refl
 
 opens-verify : (m : List ℕ) → answered (Open writeOnly (Flash Verify)) 3 m imageClosed .1 ≡ verifyOpen
-unfolding answered swept openBlob openFlash flashListed first freeRowIn freshFrom opened openedFlash
+unfolding answered swept openBlob openFlash flashListed rowFound first freeRowIn freshFrom opened openedFlash
 opens-verify m = refl
 
 commits-verify : (m : List ℕ) → answered (Commit 1 0 0) 4 m verifyOpen .1 ≡ verifyRuns
-unfolding answered onSession first onFlash kindOf commitFlash commitKind verifyJob
+unfolding answered onSession rowFound first onFlash kindOf commitFlash commitKind verifyJob
 commits-verify m = refl
 
-good-verify : onSession job 0 (endJob true) verifyRuns .1 ≡ verifyGood
-unfolding onSession first onFlash kindOf jobEnds
+good-verify : onSession OnFlash 0 (endJob true) verifyRuns .1 ≡ verifyGood
+unfolding onSession rowFound first onFlash kindOf jobEnds
 good-verify = refl
 
 closes-verify : (m : List ℕ) → answered (Close 1) 5 m verifyGood .1 ≡ verifyClosed
-unfolding answered onSession first onFlash kindOf closeFlash closedFlash
+unfolding answered onSession rowFound first onFlash kindOf closeFlash closedFlash
 closes-verify m = refl
 
 opens-update : (m : List ℕ) → answered (Open writeOnly (Flash Update)) 6 m verifyClosed .1 ≡ updateOpen
-unfolding answered swept openBlob openFlash flashListed first freeRowIn freshFrom opened openedFlash
+unfolding answered swept openBlob openFlash flashListed rowFound first freeRowIn freshFrom opened openedFlash
 opens-update m = refl
 
 commits-update : (m : List ℕ) → answered (Commit 2 0 0) 7 m updateOpen .1 ≡ updateRuns
-unfolding answered onSession first onFlash kindOf commitFlash commitKind updateJob
+unfolding answered onSession rowFound first onFlash kindOf commitFlash commitKind updateJob
 commits-update m = refl
 
 open-decoded : (k : FlashKind) → decoded (askOpen writeOnly (flashName k)) ≡ Open writeOnly (Flash k)
@@ -158,7 +159,7 @@ open-decoded Cleanup = refl
 by-message : (t : ℕ) (m : List ℕ) (q : Request) (s y : State) → decoded m ≡ q → answered q t m s .1 ≡ y → isSound s ≡ true → next s (message t m) ≡ y
 by-message t m q s y d e h = ap (λ (o : Effect). o .state) (respond-is t m s h) ∙ ap (λ (x : Request). answered x t m s .1) d ∙ e
 
-by-outcome : (good : Bool) (s y : State) → onSession job 0 (endJob good) s .1 ≡ y → isSound s ≡ true → next s (jobEnded good) ≡ y
+by-outcome : (good : Bool) (s y : State) → onSession OnFlash 0 (endJob good) s .1 ≡ y → isSound s ≡ true → next s (jobEnded good) ≡ y
 by-outcome good s y e h = ap (λ (o : Effect). o .state) (job-is good s h) ∙ e
 
 -- an event, then the rest
@@ -185,7 +186,7 @@ open-sound : isSound updateOpen ≡ true
 open-sound = ap isSound (sym runs) ∙ run-sound history fresh fresh-sound
 
 job-starts : not (eqb (jobState Update updateOpen) running) && eqb (jobState Update updateRuns) running ≡ true
-unfolding jobState rowOn first
+unfolding jobState rowFound first
 job-starts = refl
 
 -- AN UPDATE JOB STARTS AFTER THIS HISTORY

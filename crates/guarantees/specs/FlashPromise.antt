@@ -13,7 +13,6 @@ use borrow.Author.Tests.{eqb-true, eq-eqb, ne-eqb}
 use lib.ListN.{length, drop}
 use lib.Seq.{getD-set-other, getD-set-same}
 use Rattle.laws.specs.All.{and-true, Or, this, that}
-use Rattle.laws.specs.Find.{first}
 use Rattle.laws.specs.Bits.{bit, bit-zero}
 use Rattle.laws.specs.Ranges.{part}
 use Rattle.protocol.specs.Numbers.{rowWords, untried, openCommand, rowCount, slotCount, success, statusUnit, notFound, invalid, noRoom, busy, running, succeeded, imageSize, hashSize, imageBlob, hashBlob, verifyBlob, updateBlob, readOnly}
@@ -37,16 +36,18 @@ use Rattle.state.specs.Fresh.{fresh-sound}
 use Rattle.state.specs.Agree.{sound-of-test, apart-blobs, place-flash}
 use Rattle.rules.specs.Command.{Command, read, write, commit, stat, close, writeMeta, endJob, Out, commitFits}
 use Rattle.rules.specs.Flash.{withPhase, writeFlash, startable, verifyJob, updateJob, commitKind, commitFlash, closedFlash, closeFlash, jobEnds, onFlash}
-use Rattle.rules.specs.Session.{onPart, onPlace, onRow, Address, by, job, meant, onFound, onSession}
+use Rattle.state.specs.declared.row.Wanted.{Wanted}
+use Rattle.state.specs.declared.row.Wanted.the-variants.{Id, OnBlob, OnFlash}
+use Rattle.rules.specs.Session.{onPart, onPlace, onRow, onFound, onSession, rowFound}
 use Rattle.rules.specs.Sweep.{stale, sweepRow, sweepRows, noted, due, swept}
-use Rattle.rules.specs.Open.{slotNamed, rowOn, freeRowIn, freeSlotIn, freshId, newRow, opened, newSlot, heldSlot, openNew, openFree, openHeld, openNamed, openStore, flashListed, openedFlash, openFlashFree, openFlashQuiet, openFlashListed}
+use Rattle.rules.specs.Open.{slotNamed, freeRowIn, freeSlotIn, freshId, newRow, opened, newSlot, heldSlot, openNew, openFree, openHeld, openNamed, openStore, flashListed, openedFlash, openFlashFree, openFlashQuiet, openFlashListed}
 use Rattle.rules.specs.Open.{openFlash, openBlob, deleteQuiet, deleteNamed, deleteBlob}
 use Rattle.rules.specs.Respond.{Effect, answered, respond}
 use Rattle.rules.specs.Laws.{respond-is, job-is, cond-has, placed-has}
 use Rattle.rules.specs.Change.{Proper, row-new, row-old, Was, was}
 use Rattle.guarantees.specs.Merging.{Event, message, jobEnded, effectOn, proper-row}
 use Rattle.guarantees.specs.Keep.{swept-sound, sweep-rows-sound, respond-sound, job-sound}
-use Rattle.rules.specs.Searches.{free-row, no-flash-row, meant-live, on-row, row-on}
+use Rattle.rules.specs.Searches.{free-row, no-flash-row, found-live, on-row, row-on}
 
 -- ---- histories
 -- the state after an event, and after a history
@@ -69,11 +70,11 @@ statusAt (some r) s = statusOf (inRow r .get s)
 
 -- a session is open on the flash name
 unfoldable pub isOpen : FlashKind → State → Bool
-isOpen k s = isSome (rowOn (flashNumber k) s)
+isOpen k s = isSome (rowFound (OnBlob (flashNumber k)) s)
 
 -- the job status of that session
 unfoldable pub jobState : FlashKind → State → ℕ
-jobState k s = statusAt (rowOn (flashNumber k) s) s
+jobState k s = statusAt (rowFound (OnBlob (flashNumber k)) s) s
 
 -- the event opens the image: an Open of it that succeeds
 abbrev pub asksImage : Request → Bool
@@ -383,13 +384,13 @@ module _ (s : State) (g : Sound s) (i : ℕ) (l : Live i s) (t : ℕ) (c : Comma
     stands-from = stands-row;
   }
 
-flow-session : (a : Address) (t : ℕ) (c : Command) (s : State) → Sound s → Flow (Good c) s (onSession a t c s .1)
+flow-session : (a : Wanted) (t : ℕ) (c : Command) (s : State) → Sound s → Flow (Good c) s (onSession a t c s .1)
 unfolding onSession
-flow-session a t c s g = go (first (meant a s) rowCount) refl
+flow-session a t c s g = go (rowFound a s) refl
   where
-    go : (o : Option ℕ) → first (meant a s) rowCount ≡ o → Flow (Good c) s (onFound o a t c s .1)
+    go : (o : Option ℕ) → rowFound a s ≡ o → Flow (Good c) s (onFound o a t c s .1)
     go none e = flow-same (Good c) s
-    go (some r) e = flow-row s g r (meant-live a s r e) t c
+    go (some r) e = flow-row s g r (found-live a s r e) t c
 
 flow-trans : (s x y : State) → Flow ⊥ s x → Flow ⊥ x y → Flow ⊥ s y
 flow-trans s x y f h = record {
@@ -470,7 +471,7 @@ module _ (x : State) (g : Sound x) (r : ℕ) (fr : (r < rowCount) × (inRow r .g
   opening-flash body f = record { row-either = λ (q : ℕ) (l : Live q (opened flash r b flags clean t body x .1)). new-row-either flash body q (ℕ-discrete q r) l; phase-either = f }
 
   -- where no flash session was, none with a job is there now; and Uploading is not Verified
-  image-stands : (body : FlashBody) → body .phase ≡ Uploading → first (meant job x) rowCount ≡ none → Stands (opened flash r b flags clean t body x .1) → ⊥
+  image-stands : (body : FlashBody) → body .phase ≡ Uploading → rowFound OnFlash x ≡ none → Stands (opened flash r b flags clean t body x .1) → ⊥
   unfolding opened
   image-stands body e quiet (this h) = let z : _≡_ {A = ℕ} 0 1 = cc in omega arith
   image-stands body e quiet (that h) = go (new-row-either flash body (h .row) (ℕ-discrete (h .row) r) (h .live))
@@ -521,7 +522,7 @@ opening-store n flags t x g = go (storeFlags flags) refl
 
     named : flags < statusUnit → (o : Option ℕ) → Opening x (openNamed o n flags t x .1)
     named l none = absent l (writesWith flags)
-    named l (some k) = held l k (rowOn k x)
+    named l (some k) = held l k (rowFound (OnBlob k) x)
 
     go : (y : Bool) → storeFlags flags ≡ y → Opening x (cond y (openNamed (slotNamed n x) n flags t x) (refused invalid, x) .1)
     go true h = named (low h) (slotNamed n x)
@@ -551,7 +552,7 @@ flashed : (k : FlashKind) (flags t : ℕ) (x : State) → Sound x → Flashed k 
 unfolding openFlash
 flashed k flags t x g = go (flashFlags flags)
   where
-    free : first (meant job x) rowCount ≡ none → (o : Option ℕ) → freeRowIn x ≡ o → Flashed k x (openFlashFree o k t x)
+    free : rowFound OnFlash x ≡ none → (o : Option ℕ) → freeRowIn x ≡ o → Flashed k x (openFlashFree o k t x)
     free q none e = flashed-refused k x noRoom (omega arith)
     free q (some r) e = record {
       opening = opening-flash x g r (free-row x r e) (flashNumber k) writeOnly 0 t (omega arith) (omega arith) (openedFlash k (x .flashGroup)) (opened-phase k (x .flashGroup));
@@ -560,12 +561,12 @@ flashed k flags t x g = go (flashFlags flags)
           (ap (λ (j : FlashKind). openedFlash j (x .flashGroup) .phase) i ∙ image-phase (x .flashGroup)) q h);
     }
 
-    quiet : (o : Option ℕ) → first (meant job x) rowCount ≡ o → Flashed k x (openFlashQuiet o k t x)
+    quiet : (o : Option ℕ) → rowFound OnFlash x ≡ o → Flashed k x (openFlashQuiet o k t x)
     quiet none e = free e (freeRowIn x) refl
     quiet (some q) e = flashed-refused k x busy (omega arith)
 
     listed : (y : Bool) → Flashed k x (openFlashListed y k t x)
-    listed true = quiet (first (meant job x) rowCount) refl
+    listed true = quiet (rowFound OnFlash x) refl
     listed false = flashed-refused k x notFound (omega arith)
 
     go : (y : Bool) → Flashed k x (cond y (openFlashListed (flashListed k (x .flashGroup .phase)) k t x) (refused invalid, x))
@@ -621,7 +622,7 @@ deleted-moves (Store at len) m s = named (slotNamed (part at len m) s)
 
     named : (o : Option ℕ) → Moves false s (deleteNamed o s .1)
     named none = moves-same s
-    named (some k) = quiet (rowOn k s) k
+    named (some k) = quiet (rowFound (OnBlob k) s) k
 deleted-moves (Flash k) m s = moves-same s
 deleted-moves Base m s = moves-same s
 deleted-moves Unknown m s = moves-same s
@@ -654,14 +655,14 @@ unfolding answered
 message-moves Count t m s g = moves-same s
 message-moves (Enumerate index) t m s g = moves-same s
 message-moves (Open flags b) t m s g = open-moves b flags t m s g
-message-moves (Read session offset n) t m s g = moves-flow s _ (flow-session (by session) t (read offset n) s g)
-message-moves (Write session offset start) t m s g = moves-flow s _ (flow-session (by session) t (write offset (drop start m)) s g)
-message-moves (Commit session len rest) t m s g = moves-flow s _ (flow-session (by session) t (commit len rest) s g)
-message-moves (Close session) t m s g = moves-flow s _ (flow-session (by session) t close s g)
+message-moves (Read session offset n) t m s g = moves-flow s _ (flow-session (Id session) t (read offset n) s g)
+message-moves (Write session offset start) t m s g = moves-flow s _ (flow-session (Id session) t (write offset (drop start m)) s g)
+message-moves (Commit session len rest) t m s g = moves-flow s _ (flow-session (Id session) t (commit len rest) s g)
+message-moves (Close session) t m s g = moves-flow s _ (flow-session (Id session) t close s g)
 message-moves (Delete b) t m s g = deleted-moves b m s
 message-moves (Stat b) t m s g = moves-same s
-message-moves (SessionStat session) t m s g = moves-flow s _ (flow-session (by session) t stat s g)
-message-moves (WriteMeta session) t m s g = moves-flow s _ (flow-session (by session) t writeMeta s g)
+message-moves (SessionStat session) t m s g = moves-flow s _ (flow-session (Id session) t stat s g)
+message-moves (WriteMeta session) t m s g = moves-flow s _ (flow-session (Id session) t writeMeta s g)
 message-moves (Refused code) t m s g = moves-same s
 
 -- ---- every event
@@ -677,7 +678,7 @@ stands-watch v s (message t m) h f st =
     let k = message-moves (decoded m) t m s g .stands-kept (subst (λ (o : Effect). Stands (o .state)) e st) in
     let o : opensImage s (message t m) ≡ false = ap (λ (x : Effect). asksImage (decoded m) && eqb (x .code) success) e ∙ k .0 in
     ap (λ (y : Bool). cond y false (cond false true v)) o ∙ f (k .1)
-stands-watch v s (jobEnded true) h f st = go (flow-session job 0 (endJob true) s (sound-of-test s h) .stands-from (subst (λ (o : Effect). Stands (o .state)) (job-is true s h) st))
+stands-watch v s (jobEnded true) h f st = go (flow-session OnFlash 0 (endJob true) s (sound-of-test s h) .stands-from (subst (λ (o : Effect). Stands (o .state)) (job-is true s h) st))
   where
     or-so : (y : Bool) → v ≡ true → cond y true v ≡ true
     or-so true e = refl
@@ -686,7 +687,7 @@ stands-watch v s (jobEnded true) h f st = go (flow-session job 0 (endJob true) s
     go : Or (Stands s) (Unit {0} × VerifyRow s running) → cond (eqb (jobState Verify s) running) true v ≡ true
     go (this x) = or-so (eqb (jobState Verify s) running) (f x)
     go (that x) = ap (λ (y : Bool). cond y true v) (verify-runs s (sound-of-test s h) (x .1))
-stands-watch v s (jobEnded false) h f st = go (flow-session job 0 (endJob false) s (sound-of-test s h) .stands-from (subst (λ (o : Effect). Stands (o .state)) (job-is false s h) st))
+stands-watch v s (jobEnded false) h f st = go (flow-session OnFlash 0 (endJob false) s (sound-of-test s h) .stands-from (subst (λ (o : Effect). Stands (o .state)) (job-is false s h) st))
   where
     go : Or (Stands s) (⊥ × VerifyRow s running) → v ≡ true
     go (this x) = f x
@@ -700,7 +701,7 @@ row-was s (message t m) h x l n =
     (k .0, ap (λ (o : Effect). blob x (o .state)) e ∙ k .1)
 row-was s (jobEnded good) h x l n =
     let e = job-is good s h in
-    let k = flow-session job 0 (endJob good) s (sound-of-test s h) .row-from x (subst (λ (o : Effect). Live x (o .state)) e l) in
+    let k = flow-session OnFlash 0 (endJob good) s (sound-of-test s h) .row-from x (subst (λ (o : Effect). Live x (o .state)) e l) in
     (k .0, ap (λ (o : Effect). blob x (o .state)) e ∙ k .1)
 
 -- an update session is open only in phase Verified
@@ -711,9 +712,9 @@ update-phase s g x l e =
 
 update-stands : (s : State) (e : Event) → isSound s ≡ true → startsUpdate s e ≡ true → Stands s
 unfolding jobState
-update-stands s e h st = go (rowOn updateBlob (next s e)) refl (eqb-true (statusAt (rowOn updateBlob (next s e)) (next s e)) 1 (and-true (not (eqb (jobState Update s) running)) (eqb (jobState Update (next s e)) running) st .1))
+update-stands s e h st = go (rowFound (OnBlob updateBlob) (next s e)) refl (eqb-true (statusAt (rowFound (OnBlob updateBlob) (next s e)) (next s e)) 1 (and-true (not (eqb (jobState Update s) running)) (eqb (jobState Update (next s e)) running) st .1))
   where
-    go : (o : Option ℕ) → rowOn updateBlob (next s e) ≡ o → statusAt o (next s e) ≡ running → Stands s
+    go : (o : Option ℕ) → rowFound (OnBlob updateBlob) (next s e) ≡ o → statusAt o (next s e) ≡ running → Stands s
     go none q z = absurd (omega arith)
     go (some x) q z =
         let a = on-row (next s e) updateBlob x q in
@@ -746,9 +747,9 @@ update-verified es e st = promise es false fresh fresh-sound (λ (x : Stands fre
 -- two flash names are not open together
 open-row : (k : FlashKind) (s : State) → isOpen k s ≡ true → (x : ℕ) × (Live x s) × (blob x s ≡ flashNumber k)
 unfolding isOpen
-open-row k s h = go (rowOn (flashNumber k) s) refl h
+open-row k s h = go (rowFound (OnBlob (flashNumber k)) s) refl h
   where
-    go : (o : Option ℕ) → rowOn (flashNumber k) s ≡ o → isSome o ≡ true → (x : ℕ) × (Live x s) × (blob x s ≡ flashNumber k)
+    go : (o : Option ℕ) → rowFound (OnBlob (flashNumber k)) s ≡ o → isSome o ≡ true → (x : ℕ) × (Live x s) × (blob x s ≡ flashNumber k)
     go none e q = absurd (true≢false (sym q))
     go (some x) e q = let a = on-row s (flashNumber k) x e in (x, a .0, a .1)
 

@@ -12,7 +12,6 @@ use lib.ListN.{length, length-replicate}
 use Rattle.laws.specs.All.{and-true, Or, this, that}
 use Rattle.laws.specs.Bytes.{padded-length}
 use Rattle.laws.specs.Ranges.{part}
-use Rattle.laws.specs.Find.{first}
 use Rattle.protocol.specs.Numbers.{notFound, invalid, wordLimit, cleanupBlob, rowCount, slotCount, nameSize, slotSize, imageSize, hashSize, sixteenBits, readOnly, readWrite, writeOnly}
 use Rattle.protocol.specs.Names.{storeName, storeField, kindOf, flashNumber}
 use Rattle.protocol.specs.Decode.{decoded}
@@ -33,10 +32,12 @@ use Rattle.state.specs.Fresh.{free-idle}
 use Rattle.state.specs.Agree.{sound-of-test, test-of-sound, place-slot, place-flash, place-cases, blobs-apart, not-idle-is, verified-is, back-flash}
 use Rattle.rules.specs.Store.{withStaged}
 use Rattle.rules.specs.Command.{Command, close, endJob}
-use Rattle.rules.specs.Session.{Address, job, meant, onRow, onFound, onSession}
+use Rattle.state.specs.declared.row.Wanted.{Wanted}
+use Rattle.state.specs.declared.row.Wanted.the-variants.{OnBlob, OnFlash}
+use Rattle.rules.specs.Session.{onRow, onFound, onSession, rowFound}
 use Rattle.rules.specs.Sweep.{stale, sweepRow, sweepRows, noted, due, swept}
-use Rattle.rules.specs.Open.{slotNamed, rowOn, freeRowIn, freeSlotIn, after, freshId, newRow, opened, newSlot, heldSlot, openNew, openFree, openHeld, openNamed, openStore, flashListed, openedFlash, openFlashFree, openFlashQuiet}
-use Rattle.rules.specs.Open.{openFlashListed, openFlash, openBlob, deleteQuiet, deleteNamed, deleteBlob}
+use Rattle.rules.specs.Open.{slotNamed, freeRowIn, freeSlotIn, after, freshId, newRow, opened, newSlot, heldSlot, openNew, openFree, openHeld, openNamed, openStore, flashListed, openedFlash, openFlashFree, openFlashQuiet, openFlashListed}
+use Rattle.rules.specs.Open.{openFlash, openBlob, deleteQuiet, deleteNamed, deleteBlob}
 use Rattle.rules.specs.Respond.{Effect, answered, respond, jobOutcome}
 use Rattle.rules.specs.Laws.{respond-is, job-is}
 use Rattle.rules.specs.Change.{change-sound, NewName, added-sound, values-sound}
@@ -46,16 +47,16 @@ use Rattle.guarantees.specs.FlashPart.{uploading-not-idle}
 use Rattle.rules.specs.Identifiers.{after-small, fresh-small, fresh-unused}
 use Rattle.protocol.specs.Inside.{BlobInside, Inside, decoded-inside}
 use Rattle.guarantees.specs.Naming.{field-of-name}
-use Rattle.rules.specs.Searches.{free-row, free-slot, named-slot, no-name, no-row-on, no-flash-row, meant-live}
+use Rattle.rules.specs.Searches.{free-row, free-slot, named-slot, no-name, no-row-on, no-flash-row, found-live}
 
 -- ---- a session's command
-pub session-sound : (a : Address) (t : ℕ) (c : Command) (s : State) → Sound s → Sound (onSession a t c s .1)
+pub session-sound : (a : Wanted) (t : ℕ) (c : Command) (s : State) → Sound s → Sound (onSession a t c s .1)
 unfolding onSession
-session-sound a t c s g = go (first (meant a s) rowCount) refl
+session-sound a t c s g = go (rowFound a s) refl
   where
-    go : (o : Option ℕ) → first (meant a s) rowCount ≡ o → Sound (onFound o a t c s .1)
+    go : (o : Option ℕ) → rowFound a s ≡ o → Sound (onFound o a t c s .1)
     go none e = g
-    go (some r) e = on-row-sound s g r (meant-live a s r e) t c
+    go (some r) e = on-row-sound s g r (found-live a s r e) t c
 
 -- ---- the sweep
 sweep-row-sound : (t r : ℕ) (s : State) → r < rowCount → Sound s → Sound (sweepRow t r s)
@@ -140,7 +141,7 @@ new-sound n t r k s g nm none-held fr fs =
     (λ (l : ℕ) (h : l < slotCount) (m : k ≢ l) (u : slotAt l s .held ≡ 1). no-name n s none-held l h u)
 
 held-sound : (flags t r k : ℕ) (s : State) → Sound s → Or (flags ≡ readOnly) (flags ≡ readWrite) → (r < rowCount) × (inRow r .get s .used ≡ 0) → (k < slotCount) × (slotAt k s .held ≡ 1)
-    → rowOn k s ≡ none → Sound (opened (slot k) r k flags 1 t (heldSlot flags (slotAt k s)) s .1)
+    → rowFound (OnBlob k) s ≡ none → Sound (opened (slot k) r k flags 1 t (heldSlot flags (slotAt k s)) s .1)
 held-sound flags t r k s g fl fr fs quiet = go fl
   where
     lone : (q : ℕ) → Live q s → Separate (placeOf (blob q s)) (slot k)
@@ -201,11 +202,11 @@ open-store-sound : (n : List ℕ) (flags t : ℕ) (s : State) → Sound s → st
 unfolding openStore
 open-store-sound n flags t s g nm = go (storeFlags flags) refl
   where
-    free : Or (flags ≡ readOnly) (flags ≡ readWrite) → (k : ℕ) → (k < slotCount) × (slotAt k s .held ≡ 1) → rowOn k s ≡ none → (o : Option ℕ) → freeRowIn s ≡ o → Sound (openFree o k flags t s .1)
+    free : Or (flags ≡ readOnly) (flags ≡ readWrite) → (k : ℕ) → (k < slotCount) × (slotAt k s .held ≡ 1) → rowFound (OnBlob k) s ≡ none → (o : Option ℕ) → freeRowIn s ≡ o → Sound (openFree o k flags t s .1)
     free fl k fs quiet none e = g
     free fl k fs quiet (some r) e = held-sound flags t r k s g fl (free-row s r e) fs quiet
 
-    held : Or (flags ≡ readOnly) (flags ≡ readWrite) → (k : ℕ) → (k < slotCount) × (slotAt k s .held ≡ 1) → (o : Option ℕ) → rowOn k s ≡ o → Sound (openHeld o k flags t s .1)
+    held : Or (flags ≡ readOnly) (flags ≡ readWrite) → (k : ℕ) → (k < slotCount) × (slotAt k s .held ≡ 1) → (o : Option ℕ) → rowFound (OnBlob k) s ≡ o → Sound (openHeld o k flags t s .1)
     held fl k fs none e = free fl k fs e (freeRowIn s) refl
     held fl k fs (some q) e = g
 
@@ -224,7 +225,7 @@ open-store-sound n flags t s g nm = go (storeFlags flags) refl
 
     named : Or (flags ≡ readOnly) (flags ≡ readWrite) → (o : Option ℕ) → slotNamed n s ≡ o → Sound (openNamed o n flags t s .1)
     named fl none e = absent fl e (writesWith flags) refl
-    named fl (some k) e = let a = named-slot n s k e in held fl k (a .0, a .1) (rowOn k s) refl
+    named fl (some k) e = let a = named-slot n s k e in held fl k (a .0, a .1) (rowFound (OnBlob k) s) refl
 
     go : (y : Bool) → storeFlags flags ≡ y → Sound (cond y (openNamed (slotNamed n s) n flags t s) (refused invalid, s) .1)
     go true h = named (store-flags flags h) (slotNamed n s) refl
@@ -270,7 +271,7 @@ opened-idle Verify b f = f
 opened-idle Update b f = f
 opened-idle Cleanup b f = f
 
-flash-sound : (k : FlashKind) (t r : ℕ) (s : State) → Sound s → flashListed k (s .flashGroup .phase) ≡ true → first (meant job s) rowCount ≡ none → (r < rowCount) × (inRow r .get s .used ≡ 0)
+flash-sound : (k : FlashKind) (t r : ℕ) (s : State) → Sound s → flashListed k (s .flashGroup .phase) ≡ true → rowFound OnFlash s ≡ none → (r < rowCount) × (inRow r .get s .used ≡ 0)
     → Sound (opened flash r (flashNumber k) writeOnly 0 t (openedFlash k (s .flashGroup)) s .1)
 flash-sound k t r s g listed quiet fr =
     opened-sound s g r (fr .0) (fr .1) flash (flashNumber k) writeOnly 0 t (openedFlash k (s .flashGroup)) (place-flash (flashNumber k) (number-high k .0)) (alone-flash s (no-flash-row s quiet))
@@ -290,16 +291,16 @@ open-flash-sound : (k : FlashKind) (flags t : ℕ) (s : State) → Sound s → S
 unfolding openFlash
 open-flash-sound k flags t s g = go (flashFlags flags)
   where
-    free : flashListed k (s .flashGroup .phase) ≡ true → first (meant job s) rowCount ≡ none → (o : Option ℕ) → freeRowIn s ≡ o → Sound (openFlashFree o k t s .1)
+    free : flashListed k (s .flashGroup .phase) ≡ true → rowFound OnFlash s ≡ none → (o : Option ℕ) → freeRowIn s ≡ o → Sound (openFlashFree o k t s .1)
     free l q none e = g
     free l q (some r) e = flash-sound k t r s g l q (free-row s r e)
 
-    quiet : flashListed k (s .flashGroup .phase) ≡ true → (o : Option ℕ) → first (meant job s) rowCount ≡ o → Sound (openFlashQuiet o k t s .1)
+    quiet : flashListed k (s .flashGroup .phase) ≡ true → (o : Option ℕ) → rowFound OnFlash s ≡ o → Sound (openFlashQuiet o k t s .1)
     quiet l none e = free l e (freeRowIn s) refl
     quiet l (some q) e = g
 
     listed : (y : Bool) → flashListed k (s .flashGroup .phase) ≡ y → Sound (openFlashListed y k t s .1)
-    listed true e = quiet e (first (meant job s) rowCount) refl
+    listed true e = quiet e (rowFound OnFlash s) refl
     listed false e = g
 
     go : (y : Bool) → Sound (cond y (openFlashListed (flashListed k (s .flashGroup .phase)) k t s) (refused invalid, s) .1)
@@ -314,7 +315,7 @@ open-sound Base flags t m s nm g = g
 open-sound Unknown flags t m s nm g = g
 
 -- ---- Delete
-deleted-sound : (k : ℕ) (s : State) → Sound s → k < slotCount → rowOn k s ≡ none → Sound (inBody (slot k) .put freeSlot s)
+deleted-sound : (k : ℕ) (s : State) → Sound s → k < slotCount → rowFound (OnBlob k) s ≡ none → Sound (inBody (slot k) .put freeSlot s)
 deleted-sound k s g low quiet = change-sound s s′ rowCount (slot k) g (record {
   new-shape = body-shape (slot k) freeSlot s (low, freed-fits) (g .shape);
   rows-kept = λ (r : ℕ) (n : r ≢ rowCount). row-body r (slot k) .seen freeSlot s;
@@ -343,13 +344,13 @@ delete-sound : (b : Blob) (m : List ℕ) (s : State) → Sound s → Sound (dele
 unfolding deleteBlob
 delete-sound (Store at len) m s g = named (slotNamed (part at len m) s) refl
   where
-    quiet : (k : ℕ) → k < slotCount → (o : Option ℕ) → rowOn k s ≡ o → Sound (deleteQuiet o k s .1)
+    quiet : (k : ℕ) → k < slotCount → (o : Option ℕ) → rowFound (OnBlob k) s ≡ o → Sound (deleteQuiet o k s .1)
     quiet k l none e = deleted-sound k s g l e
     quiet k l (some q) e = g
 
     named : (o : Option ℕ) → slotNamed (part at len m) s ≡ o → Sound (deleteNamed o s .1)
     named none e = g
-    named (some k) e = quiet k (named-slot (part at len m) s k e .0) (rowOn k s) refl
+    named (some k) e = quiet k (named-slot (part at len m) s k e .0) (rowFound (OnBlob k) s) refl
 delete-sound (Flash k) m s g = g
 delete-sound Base m s g = g
 delete-sound Unknown m s g = g
@@ -378,4 +379,4 @@ respond-sound t m s h =
 -- AND SO DOES A JOB OUTCOME
 pub job-sound : (good : Bool) (s : State) → isSound s ≡ true → isSound (jobOutcome good s .state) ≡ true
 job-sound good s h =
-    ap (λ (o : Effect). isSound (o .state)) (job-is good s h) ∙ test-of-sound (onSession job 0 (endJob good) s .1) (session-sound job 0 (endJob good) s (sound-of-test s h))
+    ap (λ (o : Effect). isSound (o .state)) (job-is good s h) ∙ test-of-sound (onSession OnFlash 0 (endJob good) s .1) (session-sound OnFlash 0 (endJob good) s (sound-of-test s h))

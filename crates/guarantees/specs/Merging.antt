@@ -1,34 +1,36 @@
 -- DEMAND 3, on bytes: events are messages with their clocks, and job outcomes. Whatever the order in which the lists of several sessions are merged,
 -- each request is answered as in its list run whole, and the whole end state is the same. Assumes nothing.
-use mathlib.Core.Path.{_≡_, refl, sym, _∙_, ap, ap₂, subst}
+use mathlib.Core.Path.{_≡_, refl, sym, _∙_, ap, subst}
 use mathlib.Core.Logic.{_≢_}
-use mathlib.Core.Bool.{Bool, true, false, cond, _&&_}
+use mathlib.Core.Bool.{Bool, true, false, cond}
 use mathlib.Core.Option.{Option}
 use mathlib.Core.List.{List, [], _++_}
-use Prim.Native.Nat.{ℕ, _≤_, _<_}
+use Prim.Native.Nat.{ℕ, _≤_}
 use native.Mathlib.Decide.{ℕ-discrete}
 use lib.Dec.{ltb, eqb, leb}
 use lib.ListN.{drop}
-use borrow.Author.Tests.{ltb-true, eqb-true, eq-eqb, ne-eqb, le-leb, leb-true}
+use borrow.Author.Tests.{ltb-true, eq-eqb, ne-eqb, le-leb, leb-true}
 use Rattle.laws.specs.Merge.{Apart, Same, Merges, Merge, All, whole, times, tag, of, answers, alone, family, two, apart-same}
 use Rattle.laws.specs.Lens.{local-apart}
-use Rattle.laws.specs.Find.{first-some, first-none, and-false}
-use Rattle.protocol.specs.Numbers.{rowCount, slotCount}
+use Rattle.protocol.specs.Numbers.{slotCount}
 use Rattle.protocol.specs.Decode.{decoded, numberOf}
 use Rattle.protocol.specs.Frame.{Reply, refused, Answer, framed}
 use Rattle.protocol.specs.declared.Request.{Request}
 use Rattle.protocol.specs.declared.Request.the-variants.{Count, Enumerate, Open, Read, Write, Commit, Close, Delete, Stat, SessionStat, WriteMeta, Refused}
 use Rattle.state.specs.State.{State, Row, Place, slot, flash, Body, placeOf, inRow, inBody, cell}
 use Rattle.state.specs.Parts.{InRange, cell-indep, cell-steady, FitsRow, FitsBody, row-view-fits, body-view-fits}
-use Rattle.state.specs.Words.{ident, blob, inUse, Live}
+use Rattle.state.specs.Words.{ident, blob, Live}
 use Rattle.state.specs.Soundness.{isSound}
 use Rattle.state.specs.Facts.{Session, Sound}
 use Rattle.state.specs.Agree.{sound-of-test, test-of-sound, apart-blobs}
 use Rattle.rules.specs.Command.{Command, read, write, commit, stat, close, writeMeta, endJob}
-use Rattle.rules.specs.Session.{onPart, onPlace, onRow, Address, by, job, meant, absent, onFound, onSession}
+use Rattle.state.specs.declared.row.Wanted.{Wanted}
+use Rattle.state.specs.declared.row.Wanted.the-variants.{Id, OnBlob, OnFlash}
+use Rattle.rules.specs.Session.{onPart, onPlace, onRow, matches, absent, onFound, onSession}
 use Rattle.rules.specs.Respond.{Effect, answered, respond, silent, jobOutcome}
 use Rattle.rules.specs.Laws.{respond-is, job-is}
 use Rattle.rules.specs.Change.{Proper, put-sound, was}
+use Rattle.rules.specs.Searches.{only-row, none-found}
 use Rattle.guarantees.specs.StorePart.{proper-store}
 use Rattle.guarantees.specs.FlashPart.{proper-flash}
 
@@ -49,7 +51,7 @@ step s e = ((effectOn e s .code, effectOn e s .response), effectOn e s .state)
 -- ---- whom an event is for
 -- the command that names a session, or a refusal that needs no state, or something else
 pub data Deed : Type 0 where
-  asks : Address → ℕ → Command → Deed
+  asks : Wanted → ℕ → Command → Deed
   early : ℕ → Deed
   other : Deed
 
@@ -58,25 +60,26 @@ abbrev pub deedIn : Request → ℕ → List ℕ → Deed
 deedIn Count t m = other
 deedIn (Enumerate index) t m = other
 deedIn (Open flags b) t m = other
-deedIn (Read session offset n) t m = asks (by session) t (read offset n)
-deedIn (Write session offset start) t m = asks (by session) t (write offset (drop start m))
-deedIn (Commit session len rest) t m = asks (by session) t (commit len rest)
-deedIn (Close session) t m = asks (by session) t close
+deedIn (Read session offset n) t m = asks (Id session) t (read offset n)
+deedIn (Write session offset start) t m = asks (Id session) t (write offset (drop start m))
+deedIn (Commit session len rest) t m = asks (Id session) t (commit len rest)
+deedIn (Close session) t m = asks (Id session) t close
 deedIn (Delete b) t m = other
 deedIn (Stat b) t m = other
-deedIn (SessionStat session) t m = asks (by session) t stat
-deedIn (WriteMeta session) t m = asks (by session) t writeMeta
+deedIn (SessionStat session) t m = asks (Id session) t stat
+deedIn (WriteMeta session) t m = asks (Id session) t writeMeta
 deedIn (Refused code) t m = early (code .0)
 
 -- of an event
 abbrev pub deed : Event → Deed
 deed (message t m) = deedIn (decoded m) t m
-deed (jobEnded good) = asks job 0 (endJob good)
+deed (jobEnded good) = asks OnFlash 0 (endJob good)
 
 -- the deed names the session that row i has in the state s, or is refused early and so names none
 abbrev pub Names : State → ℕ → Deed → Type 0
-Names s i (asks (by id) t c) = id ≡ ident i s
-Names s i (asks job t c) = slotCount ≤ blob i s
+Names s i (asks (Id id) t c) = id ≡ ident i s
+Names s i (asks (OnBlob b) t c) = b ≡ blob i s
+Names s i (asks OnFlash t c) = slotCount ≤ blob i s
 Names s i (early code) = Unit {0}
 Names s i other = ⊥
 
@@ -127,41 +130,35 @@ pub record Since (s₀ s : State) : Type 0 where
   pub blob-from : (r : ℕ) → Live r s → blob r s ≡ blob r s₀
 
 module _ (s₀ : State) (good₀ : Sound s₀) where
-  others-miss : (i : ℕ) (a : Address) (t : ℕ) (c : Command) (s : State) → Live i s₀ → Names s₀ i (asks a t c) → Since s₀ s → (r : ℕ) → r < rowCount → r ≢ i → meant a s r ≡ false
-  others-miss i (by id) t c s li nm since r q n = and-false (inUse r s) (eqb (ident r s) id) (λ (b : inUse r s ≡ true).
-      let l : Live r s = (q, eqb-true (inRow r .get s .used) 1 b) in
-      ne-eqb (ident r s) id (λ (x : ident r s ≡ id). good₀ .ids r i (since .from-start r l) li n (sym (since .id-from r l) ∙ x ∙ nm)))
-  others-miss i job t c s li nm since r q n = and-false (inUse r s) (leb slotCount (blob r s)) (λ (b : inUse r s ≡ true).
-      let l : Live r s = (q, eqb-true (inRow r .get s .used) 1 b) in
+  others-miss : (i : ℕ) (a : Wanted) (t : ℕ) (c : Command) (s : State) → Live i s₀ → Names s₀ i (asks a t c) → Since s₀ s → (r : ℕ) → Live r s → r ≢ i → matches a (inRow r .get s) ≡ false
+  others-miss i (Id id) t c s li nm since r l n = ne-eqb (ident r s) id (λ (x : ident r s ≡ id). good₀ .ids r i (since .from-start r l) li n (sym (since .id-from r l) ∙ x ∙ nm))
+  others-miss i (OnBlob b) t c s li nm since r l n =
+      ne-eqb (blob r s) b (λ (x : blob r s ≡ b). apart-blobs (blob r s₀) (blob i s₀) (good₀ .spots r i (since .from-start r l) li n) .0 (sym (since .blob-from r l) ∙ x ∙ nm))
+  others-miss i OnFlash t c s li nm since r l n =
       let d = apart-blobs (blob r s₀) (blob i s₀) (good₀ .spots r i (since .from-start r l) li n) in
-      go (leb slotCount (blob r s)) refl (λ (h : slotCount ≤ blob r s). d .1 (subst (λ (x : ℕ). slotCount ≤ x) (since .blob-from r l) h) nm))
+      go (leb slotCount (blob r s)) refl (λ (h : slotCount ≤ blob r s). d .1 (subst (λ (x : ℕ). slotCount ≤ x) (since .blob-from r l) h) nm)
     where
       go : (y : Bool) → leb slotCount (blob r s) ≡ y → (slotCount ≤ blob r s → ⊥) → leb slotCount (blob r s) ≡ false
       go true e f = absurd (f (leb-true _ _ e))
       go false e f = e
 
-  dead-misses : (i : ℕ) (a : Address) (s : State) → inRow i .get s .used ≢ 1 → meant a s i ≡ false
-  dead-misses i (by id) s h = ap (λ (b : Bool). b && eqb (ident i s) id) (ne-eqb (inRow i .get s .used) 1 h)
-  dead-misses i job s h = ap (λ (b : Bool). b && leb slotCount (blob i s)) (ne-eqb (inRow i .get s .used) 1 h)
-
-  live-hits : (i : ℕ) (a : Address) (t : ℕ) (c : Command) (s : State) → Names s₀ i (asks a t c) → Since s₀ s → Live i s → meant a s i ≡ true
-  live-hits i (by id) t c s nm since l = ap₂ (λ (a b : Bool). a && b) (eq-eqb (inRow i .get s .used) 1 (l .1)) (eq-eqb (ident i s) id (since .id-from i l ∙ sym nm))
-  live-hits i job t c s nm since l =
-      ap₂ (λ (a b : Bool). a && b) (eq-eqb (inRow i .get s .used) 1 (l .1)) (le-leb slotCount (blob i s) (subst (λ (x : ℕ). slotCount ≤ x) (sym (since .blob-from i l)) nm))
+  live-hits : (i : ℕ) (a : Wanted) (t : ℕ) (c : Command) (s : State) → Names s₀ i (asks a t c) → Since s₀ s → Live i s → matches a (inRow i .get s) ≡ true
+  live-hits i (Id id) t c s nm since l = eq-eqb (ident i s) id (since .id-from i l ∙ sym nm)
+  live-hits i (OnBlob b) t c s nm since l = eq-eqb (blob i s) b (since .blob-from i l ∙ sym nm)
+  live-hits i OnFlash t c s nm since l = le-leb slotCount (blob i s) (subst (λ (x : ℕ). slotCount ≤ x) (sym (since .blob-from i l)) nm)
 
   -- what a command does: on its own session's part, or it is refused
-  does-live : (i : ℕ) (a : Address) (t : ℕ) (c : Command) (s : State) → Live i s₀ → Names s₀ i (asks a t c) → Since s₀ s → Live i s → onSession a t c s ≡ onRow i t c s
+  does-live : (i : ℕ) (a : Wanted) (t : ℕ) (c : Command) (s : State) → Live i s₀ → Names s₀ i (asks a t c) → Since s₀ s → Live i s → onSession a t c s ≡ onRow i t c s
   unfolding onSession
-  does-live i a t c s li nm since l =
-      ap (λ (f : Option ℕ). onFound f a t c s) (first-some (meant a s) rowCount i (li .0) (live-hits i a t c s nm since l) (others-miss i a t c s li nm since))
+  does-live i a t c s li nm since l = ap (λ (f : Option ℕ). onFound f a t c s) (only-row a s i l (live-hits i a t c s nm since l) (others-miss i a t c s li nm since))
 
-  does-gone : (i : ℕ) (a : Address) (t : ℕ) (c : Command) (s : State) → Live i s₀ → Names s₀ i (asks a t c) → Since s₀ s → inRow i .get s .used ≢ 1 → onSession a t c s ≡ (absent a, s)
+  does-gone : (i : ℕ) (a : Wanted) (t : ℕ) (c : Command) (s : State) → Live i s₀ → Names s₀ i (asks a t c) → Since s₀ s → inRow i .get s .used ≢ 1 → onSession a t c s ≡ (absent a, s)
   unfolding onSession
-  does-gone i a t c s li nm since h = ap (λ (f : Option ℕ). onFound f a t c s) (first-none (meant a s) rowCount (λ (r : ℕ) (q : r < rowCount). go r q (ℕ-discrete r i)))
+  does-gone i a t c s li nm since h = ap (λ (f : Option ℕ). onFound f a t c s) (none-found a s (λ (r : ℕ) (l : Live r s). go r l (ℕ-discrete r i)))
     where
-      go : (r : ℕ) → r < rowCount → Dec (r ≡ i) → meant a s r ≡ false
-      go r q (yes e) = rw e (dead-misses i a s h)
-      go r q (no n) = others-miss i a t c s li nm since r q n
+      go : (r : ℕ) → Live r s → Dec (r ≡ i) → matches a (inRow r .get s) ≡ false
+      go r l (yes e) = absurd (h (subst (λ (x : ℕ). inRow x .get s .used ≡ 1) e (l .1)))
+      go r l (no n) = others-miss i a t c s li nm since r l n
 
   -- the session's part decides
   abbrev Part : ℕ → Type 0

@@ -7,9 +7,8 @@ use mathlib.Core.List.{List, [], _∷_}
 use Prim.Native.Nat.{ℕ, _+_, _≤_}
 use lib.Dec.{eqb}
 use lib.ListN.{length}
-use Rattle.laws.specs.Find.{first}
 use Rattle.laws.specs.Ranges.{part}
-use Rattle.protocol.specs.Numbers.{notFound, invalid, rowCount, slotSize, imageSize, hashSize, success, running, writeOnly}
+use Rattle.protocol.specs.Numbers.{notFound, invalid, slotSize, imageSize, hashSize, success, running, writeOnly}
 use Rattle.protocol.specs.Names.{kindOf, flashNumber}
 use Rattle.protocol.specs.Decode.{decoded, numberOf}
 use Rattle.protocol.specs.Frame.{Reply, refused, done, reply, framed}
@@ -26,9 +25,11 @@ use Rattle.state.specs.Soundness.{isSound}
 use Rattle.rules.specs.Store.{readStore, stored, writeStore, commitWriting, commitStore, onStore}
 use Rattle.rules.specs.Command.{Command, read, write, commit, stat, close, writeMeta, endJob, commitFits}
 use Rattle.rules.specs.Flash.{writeFlash, startable, verifyJob, updateJob, commitKind, commitFlash, closeFlash, jobEnds, onFlash}
-use Rattle.rules.specs.Session.{onPart, onPlace, Address, job, meant, onFound, onSession}
+use Rattle.state.specs.declared.row.Wanted.{Wanted}
+use Rattle.state.specs.declared.row.Wanted.the-variants.{OnBlob, OnFlash}
+use Rattle.rules.specs.Session.{onPart, onPlace, onFound, onSession, rowFound}
 use Rattle.rules.specs.Sweep.{swept}
-use Rattle.rules.specs.Open.{slotNamed, rowOn, freeRowIn, freeSlotIn, opened, openNew, openFree, openHeld, openNamed, openStore, flashListed, openFlashFree, openFlashQuiet, openFlashListed, openFlash, openBlob, deleteQuiet, deleteNamed}
+use Rattle.rules.specs.Open.{slotNamed, freeRowIn, freeSlotIn, opened, openNew, openFree, openHeld, openNamed, openStore, flashListed, openFlashFree, openFlashQuiet, openFlashListed, openFlash, openBlob, deleteQuiet, deleteNamed}
 use Rattle.rules.specs.Open.{deleteBlob}
 use Rattle.rules.specs.Respond.{Effect, effectOf, unsound, answered, respond, silent, jobOutcome}
 use Rattle.rules.specs.Laws.{cond-has, placed-has}
@@ -140,13 +141,13 @@ keep-part flash t c r b = keep-flash r b (kindOf (blobOf r)) t c
 keep-place : (p : Place) (r t : ℕ) (c : Command) (s : State) → Keeps s (onPlace p r t c s)
 keep-place p r t c s h = ap (λ (x : Row × Body p). cell r p .put x s) (keep-part p t c (inRow r .get s) (inBody p .get s) h) ∙ cell-steady r p s
 
-keep-found : (o : Option ℕ) (a : Address) (t : ℕ) (c : Command) (s : State) → Keeps s (onFound o a t c s)
+keep-found : (o : Option ℕ) (a : Wanted) (t : ℕ) (c : Command) (s : State) → Keeps s (onFound o a t c s)
 keep-found none a t c s h = refl
 keep-found (some r) a t c s h = keep-place (placeOf (blob r s)) r t c s h
 
-keep-session : (a : Address) (t : ℕ) (c : Command) (s : State) → Keeps s (onSession a t c s)
+keep-session : (a : Wanted) (t : ℕ) (c : Command) (s : State) → Keeps s (onSession a t c s)
 unfolding onSession
-keep-session a t c s = keep-found (first (meant a s) rowCount) a t c s
+keep-session a t c s = keep-found (rowFound a s) a t c s
 
 keep-opened : (p : Place) (r b flags clean t : ℕ) (body : Body p) (s : State) → Keeps s (opened p r b flags clean t body s)
 unfolding opened
@@ -167,7 +168,7 @@ keep-held (some q) k flags t s = λ h. refl
 
 keep-named : (o : Option ℕ) (n : List ℕ) (flags t : ℕ) (s : State) → Keeps s (openNamed o n flags t s)
 keep-named none n flags t s = cond-has (Keeps s) (writesWith flags) (openNew (freeRowIn s) (freeSlotIn s) n flags t s) (refused notFound, s) (keep-new (freeRowIn s) (freeSlotIn s) n flags t s) (λ h. refl)
-keep-named (some k) n flags t s = keep-held (rowOn k s) k flags t s
+keep-named (some k) n flags t s = keep-held (rowFound (OnBlob k) s) k flags t s
 
 keep-open-store : (n : List ℕ) (flags t : ℕ) (s : State) → Keeps s (openStore n flags t s)
 unfolding openStore
@@ -183,7 +184,7 @@ keep-flash-quiet none k t s = keep-flash-free (freeRowIn s) k t s
 keep-flash-quiet (some q) k t s = λ h. refl
 
 keep-flash-listed : (y : Bool) (k : FlashKind) (t : ℕ) (s : State) → Keeps s (openFlashListed y k t s)
-keep-flash-listed true k t s = keep-flash-quiet (first (meant job s) rowCount) k t s
+keep-flash-listed true k t s = keep-flash-quiet (rowFound OnFlash s) k t s
 keep-flash-listed false k t s = λ h. refl
 
 keep-open-flash : (k : FlashKind) (flags t : ℕ) (s : State) → Keeps s (openFlash k flags t s)
@@ -204,7 +205,7 @@ keep-delete-quiet (some q) k s = λ h. refl
 
 keep-delete-named : (o : Option ℕ) (s : State) → Keeps s (deleteNamed o s)
 keep-delete-named none s = λ h. refl
-keep-delete-named (some k) s = keep-delete-quiet (rowOn k s) k s
+keep-delete-named (some k) s = keep-delete-quiet (rowFound (OnBlob k) s) k s
 
 keep-delete : (b : Blob) (m : List ℕ) (s : State) → Keeps s (deleteBlob b m s)
 unfolding deleteBlob
@@ -293,8 +294,8 @@ unfolding jobOutcome
 refused-job good s = go (isSound s)
   where
     full : Effect
-    full = effectOf (silent (onSession job 0 (endJob good) s .0)) (onSession job 0 (endJob good) s .1)
+    full = effectOf (silent (onSession OnFlash 0 (endJob good) s .0)) (onSession OnFlash 0 (endJob good) s .1)
 
     go : (y : Bool) → cond y full (unsound s) .code ≢ success → Nothing (cond y full (unsound s)) s
-    go true h = record { no-response = silent-nothing (onSession job 0 (endJob good) s .0); as-found = keep-session job 0 (endJob good) s (refused-silent (onSession job 0 (endJob good) s .0) h) }
+    go true h = record { no-response = silent-nothing (onSession OnFlash 0 (endJob good) s .0); as-found = keep-session OnFlash 0 (endJob good) s (refused-silent (onSession OnFlash 0 (endJob good) s .0) h) }
     go false h = record { no-response = refl; as-found = refl }

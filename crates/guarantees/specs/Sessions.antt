@@ -23,7 +23,8 @@ use Rattle.state.specs.Agree.{sound-of-test, test-of-sound, place-slot}
 use Rattle.rules.specs.Store.{stored, writeStore, onStore, seenLength}
 use Rattle.rules.specs.Command.{Command, read, write, stat, close, Out}
 use Rattle.rules.specs.Flash.{closeFlash, onFlash}
-use Rattle.rules.specs.Session.{onPart, onPlace, onRow, by, onSession}
+use Rattle.state.specs.declared.row.Wanted.the-variants.{Id}
+use Rattle.rules.specs.Session.{onPart, onPlace, onRow, onSession}
 use Rattle.rules.specs.Respond.{Effect, effectOf, answered, respond}
 use Rattle.rules.specs.Laws.{respond-is, placed-fits}
 use Rattle.rules.specs.Searches.{session-row}
@@ -35,7 +36,7 @@ use Rattle.guarantees.specs.Merging.{proper, proper-row, on-row-sound}
 use lib.Seq.{getD-set-other}
 
 -- a message that asks the session of row i for the command c
-asked-of : (t i : ℕ) (m : List ℕ) (q : Request) (c : Command) (s : State) → Sound s → Live i s → decoded m ≡ q → answered q t m s ≡ onSession (by (ident i s)) t c s
+asked-of : (t i : ℕ) (m : List ℕ) (q : Request) (c : Command) (s : State) → Sound s → Live i s → decoded m ≡ q → answered q t m s ≡ onSession (Id (ident i s)) t c s
     → respond t m s ≡ effectOf (framed (numberOf q) (onRow i t c s .0)) (onRow i t c s .1)
 asked-of t i m q c s g l d e =
     respond-is t m s (test-of-sound s g) ∙ ap (λ (x : Request). effectOf (framed (numberOf x) (answered x t m s .0)) (answered x t m s .1)) d
@@ -55,7 +56,7 @@ write-asked : (t i offset : ℕ) (ws : List ℕ) (s : State) → Sound s → Liv
 unfolding answered
 write-asked t i offset ws s g l ho hw =
     let d = write-decoded (ident i s) offset ws (live-id i s g l) ho hw in
-    asked-of t i (askWrite (ident i s) offset ws) (Write (ident i s) offset (fieldsAt + 6)) (write offset ws) s g l (d .0) (ap (λ (x : List ℕ). onSession (by (ident i s)) t (write offset x) s) (d .1))
+    asked-of t i (askWrite (ident i s) offset ws) (Write (ident i s) offset (fieldsAt + 6)) (write offset ws) s g l (d .0) (ap (λ (x : List ℕ). onSession (Id (ident i s)) t (write offset x) s) (d .1))
 
 read-asked : (t i offset n : ℕ) (s : State) → Sound s → Live i s → offset < thirtyTwoBits → n < thirtyTwoBits
     → respond t (askRead (ident i s) offset n) s ≡ effectOf (framed readCommand (onRow i t (read offset n) s .0)) (onRow i t (read offset n) s .1)

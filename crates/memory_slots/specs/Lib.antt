@@ -1,3 +1,2 @@
-pub mod Lookup
 pub mod Laws
 pub mod Slots

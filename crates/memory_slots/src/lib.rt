@@ -1,30 +1,20 @@
-// Work on lent memory: a slot's regions and name, a slot freed, the row of a session looked up.
+// Work on lent memory: a slot's regions and name, a slot freed.
 ghost use mathlib.Core.Path.{_≡_};
 ghost use mathlib.Core.List.{List};
 ghost use Prim.Native.Nat.{ℕ, _+_, _*_, _≤_, _<_};
 ghost use lib.ListN.{length, replicate};
 ghost use Rattle.laws.specs.Ranges.{part, block};
 ghost use Rattle.laws.specs.Bytes.{padded};
-ghost use Rattle.laws.specs.Find.{first};
-ghost use Rattle.protocol.specs.Numbers.{rowCount, slotCount, nameSize, slotSize};
-ghost use Rattle.state.specs.Answers.{optionOf};
-ghost use Rattle.state.specs.Entry.{wordsOf};
+ghost use Rattle.protocol.specs.Numbers.{slotCount, nameSize, slotSize};
 ghost use Rattle.state.specs.State.{stateOf, inBody, slot};
 ghost use Rattle.state.specs.Words.{freeSlot};
-ghost use Rattle.state.specs.Lent.{TableLent, NamesLent, RegionsLent};
-ghost use Rattle.memory_slots.specs.Lookup.{fits, sought};
+ghost use Rattle.state.specs.Lent.{NamesLent, RegionsLent};
 use memory_copy::clear_at;
 use memory_copy::copy_at;
 use state::Control;
 use state::NAME_SIZE;
-use state::ROWS;
 use state::SLOT_SIZE;
-use state::SLOTS;
-use state::mask::Found;
 use state::mask::clear_bit;
-use state::mask::has;
-use state::row::Entry;
-use state::row::read_row;
 
 // Slot k's region of dst becomes its region of src.
 pub fn copy_region(dst: &mut [u8], src: &[u8], k: usize)
@@ -83,45 +73,4 @@ pub fn free_slot(
     next.committed_len[k] = 0;
     next.staged_len[k] = 0;
     next
-}
-
-// The row that is looked for: the session of an identifier, the session on a blob, or the flash session.
-pub enum Wanted {
-    Id(u32),
-    Blob(u32),
-    Flash,
-}
-
-// The row is the one wanted, if it is used.
-fn fits(e: Entry, wanted: Wanted) -> bool
-    ensures { λ x. ⌜ x ≡ fits wanted (wordsOf e) ⌝ }
-{
-    match wanted {
-        Wanted::Id(id) => e.id == id,
-        Wanted::Blob(blob) => e.blob == blob,
-        Wanted::Flash => SLOTS as u32 <= e.blob,
-    }
-}
-
-// Row r is used and the one wanted.
-fn is_sought(table: &[u32], rows: u32, wanted: Wanted, r: usize) -> bool
-    requires { ⌜ TableLent (now table) × (r < rowCount) ⌝ }
-    ensures { λ x. ⌜ x ≡ sought wanted (now (table .entry)) rows r ⌝ }
-{
-    has(rows, r) & fits(read_row(table, r), wanted)
-}
-
-// The first used row that is the one wanted.
-pub fn find_row(table: &[u32], rows: u32, wanted: Wanted) -> Found
-    requires { ⌜ TableLent (now table) ⌝ }
-    ensures { λ f. ⌜ optionOf f ≡ first (sought wanted (now (table .entry)) rows) rowCount ⌝ }
-{
-    let mut r: usize = 0;
-    while r < ROWS {
-        if is_sought(table, rows, wanted, r) {
-            return Found::At(r);
-        }
-        r += 1;
-    }
-    Found::Nothing
 }

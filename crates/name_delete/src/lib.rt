@@ -9,16 +9,16 @@ ghost use Rattle.state.specs.State.{stateOf};
 ghost use Rattle.state.specs.Lent.{TableLent, NamesLent, RegionsLent};
 ghost use Rattle.rules.specs.Open.{deleteBlob};
 ghost use Rattle.response_types.specs.After.{afterAct};
-use memory_slots::Wanted;
-use memory_slots::find_row;
+use lookup::find_name;
+use lookup::find_row;
 use memory_slots::free_slot;
-use places::find_name;
 use protocol::Blob;
 use protocol::Code;
 use response_types::Act;
 use response_types::Said;
 use state::Control;
 use state::mask::Found;
+use state::row::Wanted;
 
 // Delete of a store name, which stands in the message.
 fn delete_store(
@@ -40,7 +40,7 @@ fn delete_store(
             control,
         };
     };
-    let Found::Nothing = find_row(table, control.rows, Wanted::Blob(k as u32)) else {
+    let Found::Nothing = find_row(table, control.rows, Wanted::OnBlob(k as u32)) else {
         return Act {
             said: Said::Refused(Code::BUSY),
             control,

@@ -8,7 +8,6 @@ use lib.Dec.{eqb}
 use lib.ListN.{getD}
 use Rattle.laws.specs.Ranges.{part, block}
 use Rattle.laws.specs.Bits.{bit}
-use Rattle.laws.specs.Find.{first}
 use Rattle.protocol.specs.Numbers.{slotCount, rowWords, notFound, stateCommitted}
 use Rattle.protocol.specs.Names.{kindOf, flashNumber}
 use Rattle.protocol.specs.Frame.{refused, reply, statFields}
@@ -21,11 +20,9 @@ use Rattle.state.specs.declared.row.Entry.{Entry}
 use Rattle.state.specs.Agree.{place-slot, place-flash}
 use Rattle.rules.specs.Command.{stateBits}
 use Rattle.rules.specs.Flash.{flashLength}
-use Rattle.rules.specs.Session.{statRow, statPart}
-use Rattle.rules.specs.Open.{statBlob, statNamed, statSlot, statKind, flashListed, rowOn}
-use Rattle.memory_slots.specs.Lookup.{rowSought, by-blob}
-use Rattle.memory_slots.specs.declared.Wanted.the-variants.{Blob}
-use Rattle.places.specs.Search.{holds, slot-named}
+use Rattle.rules.specs.Session.{rowFound, statRow, statPart}
+use Rattle.rules.specs.Open.{slotNamed, statBlob, statNamed, statSlot, statKind, flashListed}
+use Rattle.state.specs.declared.row.Wanted.the-variants.{OnBlob}
 
 -- ---- row r, which was read as e
 module _ (r : ℕ) (s : State) (e : Entry) (words : block rowWords r .get (s .sessions .table) ≡ wordsOf e) where
@@ -45,37 +42,37 @@ module _ (r : ℕ) (s : State) (e : Entry) (words : block rowWords r .get (s .se
 
 -- ---- a store name
 module _ (start len : ℕ) (m : List ℕ) (s : State) where
-  named : (o : Option ℕ) → first (holds (part start len m) (s .store .names) (s .store .slots)) slotCount ≡ o → statNamed o s ≡ statBlob (Store start len) m s
+  named : (o : Option ℕ) → slotNamed (part start len m) s ≡ o → statNamed o s ≡ statBlob (Store start len) m s
   unfolding statBlob
-  named o e = ap (λ (x : Option ℕ). statNamed x s) (sym (slot-named (part start len m) s ∙ e))
+  named o e = ap (λ (x : Option ℕ). statNamed x s) (sym e)
 
-  pub store-none : first (holds (part start len m) (s .store .names) (s .store .slots)) slotCount ≡ none → refused notFound ≡ statBlob (Store start len) m s
+  pub store-none : slotNamed (part start len m) s ≡ none → refused notFound ≡ statBlob (Store start len) m s
   store-none e = named none e
 
-  module _ (k : ℕ) (e : first (holds (part start len m) (s .store .names) (s .store .slots)) slotCount ≡ some k) where
-    held : (o : Option ℕ) → rowSought (Blob k) s ≡ o → statSlot o k s ≡ statBlob (Store start len) m s
-    held o f = ap (λ (x : Option ℕ). statSlot x k s) (sym (sym (by-blob k s) ∙ f)) ∙ named (some k) e
+  module _ (k : ℕ) (e : slotNamed (part start len m) s ≡ some k) where
+    held : (o : Option ℕ) → rowFound (OnBlob k) s ≡ o → statSlot o k s ≡ statBlob (Store start len) m s
+    held o f = ap (λ (x : Option ℕ). statSlot x k s) (sym f) ∙ named (some k) e
 
-    pub store-closed : rowSought (Blob k) s ≡ none → reply (statFields stateCommitted (getD (s .store .committedLens) k 0)) ≡ statBlob (Store start len) m s
+    pub store-closed : rowFound (OnBlob k) s ≡ none → reply (statFields stateCommitted (getD (s .store .committedLens) k 0)) ≡ statBlob (Store start len) m s
     store-closed f = held none f
 
-    pub store-open : (r : ℕ) → rowSought (Blob k) s ≡ some r → reply (statRow r s) ≡ statBlob (Store start len) m s
+    pub store-open : (r : ℕ) → rowFound (OnBlob k) s ≡ some r → reply (statRow r s) ≡ statBlob (Store start len) m s
     store-open r f = held (some r) f
 
 -- ---- a flash name
 module _ (k : FlashKind) (m : List ℕ) (s : State) where
-  there : (b : Bool) → flashListed k (s .flashGroup .phase) ≡ b → (o : Option ℕ) → rowSought (Blob (flashNumber k)) s ≡ o → cond b (statKind o k s) (refused notFound) ≡ statBlob (Flash k) m s
+  there : (b : Bool) → flashListed k (s .flashGroup .phase) ≡ b → (o : Option ℕ) → rowFound (OnBlob (flashNumber k)) s ≡ o → cond b (statKind o k s) (refused notFound) ≡ statBlob (Flash k) m s
   unfolding statBlob
   there b e o f =
-      ap (λ (x : Option ℕ). cond b (statKind x k s) (refused notFound)) (sym (sym (by-blob (flashNumber k) s) ∙ f))
-      ∙ ap (λ (x : Bool). cond x (statKind (rowOn (flashNumber k) s) k s) (refused notFound)) (sym e)
+      ap (λ (x : Option ℕ). cond b (statKind x k s) (refused notFound)) (sym f)
+      ∙ ap (λ (x : Bool). cond x (statKind (rowFound (OnBlob (flashNumber k)) s) k s) (refused notFound)) (sym e)
 
   pub flash-hidden : flashListed k (s .flashGroup .phase) ≡ false → refused notFound ≡ statBlob (Flash k) m s
-  flash-hidden e = there false e (rowSought (Blob (flashNumber k)) s) refl
+  flash-hidden e = there false e (rowFound (OnBlob (flashNumber k)) s) refl
 
   module _ (e : flashListed k (s .flashGroup .phase) ≡ true) where
-    pub flash-closed : rowSought (Blob (flashNumber k)) s ≡ none → reply (statFields 0 (flashLength k (s .flashGroup))) ≡ statBlob (Flash k) m s
+    pub flash-closed : rowFound (OnBlob (flashNumber k)) s ≡ none → reply (statFields 0 (flashLength k (s .flashGroup))) ≡ statBlob (Flash k) m s
     flash-closed f = there true e none f
 
-    pub flash-open : (r : ℕ) → rowSought (Blob (flashNumber k)) s ≡ some r → reply (statRow r s) ≡ statBlob (Flash k) m s
+    pub flash-open : (r : ℕ) → rowFound (OnBlob (flashNumber k)) s ≡ some r → reply (statRow r s) ≡ statBlob (Flash k) m s
     flash-open r f = there true e (some r) f

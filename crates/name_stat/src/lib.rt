@@ -12,9 +12,8 @@ ghost use Rattle.state.specs.Lent.{TableLent, NamesLent};
 ghost use Rattle.rules.specs.Session.{statRow};
 ghost use Rattle.rules.specs.Open.{statBlob};
 ghost use Rattle.response_types.specs.After.{replyOf};
-use memory_slots::Wanted;
-use memory_slots::find_row;
-use places::find_name;
+use lookup::find_name;
+use lookup::find_row;
 use places::flash_listed;
 use protocol::Blob;
 use protocol::BlobState;
@@ -27,6 +26,7 @@ use session_store::seen_length;
 use state::Control;
 use state::SLOTS;
 use state::mask::Found;
+use state::row::Wanted;
 use state::row::kind_of;
 use state::row::read_row;
 
@@ -64,7 +64,7 @@ fn stat_store(
     let Found::At(k) = find_name(names, control.slots, message, start, len) else {
         return Said::Refused(Code::NOT_FOUND);
     };
-    let Found::At(r) = find_row(table, control.rows, Wanted::Blob(k as u32)) else {
+    let Found::At(r) = find_row(table, control.rows, Wanted::OnBlob(k as u32)) else {
         return Said::Stat {
             state: BlobState::COMMITTED.0,
             size: seen_length(control, k, false),
@@ -82,7 +82,7 @@ fn stat_flash(kind: FlashKind, control: Control, table: &[u32]) -> Said
     if !flash_listed(kind, phase) {
         return Said::Refused(Code::NOT_FOUND);
     }
-    let Found::At(r) = find_row(table, control.rows, Wanted::Blob(kind.number())) else {
+    let Found::At(r) = find_row(table, control.rows, Wanted::OnBlob(kind.number())) else {
         return Said::Stat {
             state: 0,
             size: flash_length(kind, control),

@@ -13,9 +13,9 @@ use Rattle.protocol.specs.Frame.{refused}
 use Rattle.protocol.specs.declared.FlashKind.{FlashKind}
 use Rattle.state.specs.State.{State, inBody, flash}
 use Rattle.rules.specs.Open.{openedFlash, openFlash, openFlashListed, openFlashQuiet, openFlashFree, flashListed}
-use Rattle.memory_slots.specs.Lookup.{rowSought, by-flash}
-use Rattle.memory_slots.specs.declared.Wanted.the-variants.{Flash}
-use Rattle.places.specs.Search.{free-row}
+use Rattle.state.specs.declared.row.Wanted.the-variants.{OnFlash}
+use Rattle.rules.specs.Session.{rowFound}
+use Rattle.lookup.specs.Search.{free-row}
 use Rattle.open_steps.specs.Steps.{rowOpened}
 use Rattle.open_steps.specs.Laws.{opened-is}
 
@@ -35,13 +35,13 @@ module _ (k : FlashKind) (flags t : ℕ) (s : State) where
     flash-absent e = there false e
 
     module _ (e : flashListed k (s .flashGroup .phase) ≡ true) where
-      quiet : (o : Option ℕ) → rowSought Flash s ≡ o → openFlashQuiet o k t s ≡ openFlash k flags t s
-      quiet o f = ap (λ (x : Option ℕ). openFlashQuiet x k t s) (sym (sym (by-flash s) ∙ f)) ∙ there true e
+      quiet : (o : Option ℕ) → rowFound OnFlash s ≡ o → openFlashQuiet o k t s ≡ openFlash k flags t s
+      quiet o f = ap (λ (x : Option ℕ). openFlashQuiet x k t s) (sym f) ∙ there true e
 
-      pub flash-busy : (q : ℕ) → rowSought Flash s ≡ some q → (refused busy, s) ≡ openFlash k flags t s
+      pub flash-busy : (q : ℕ) → rowFound OnFlash s ≡ some q → (refused busy, s) ≡ openFlash k flags t s
       flash-busy q f = quiet (some q) f
 
-      module _ (f : rowSought Flash s ≡ none) where
+      module _ (f : rowFound OnFlash s ≡ none) where
         free : (o : Option ℕ) → first (clear (s .sessions .rows)) slotCount ≡ o → openFlashFree o k t s ≡ openFlash k flags t s
         free o g = ap (λ (x : Option ℕ). openFlashFree x k t s) (sym (free-row s ∙ g)) ∙ quiet none f
 

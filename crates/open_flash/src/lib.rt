@@ -7,9 +7,8 @@ ghost use Rattle.state.specs.State.{stateOf, inBody, flash};
 ghost use Rattle.state.specs.Lent.{TableLent, ImageLent, HashLent};
 ghost use Rattle.rules.specs.Open.{openedFlash, openFlash};
 ghost use Rattle.response_types.specs.After.{afterAct};
+use lookup::find_row;
 use memory_copy::clear_at;
-use memory_slots::Wanted;
-use memory_slots::find_row;
 use open_steps::open_row;
 use places::flash_listed;
 use protocol::Code;
@@ -23,6 +22,7 @@ use state::IMAGE_SIZE;
 use state::Phase;
 use state::mask::Found;
 use state::mask::lowest_free;
+use state::row::Wanted;
 use state::values::with_phase;
 
 // Image or hash: its bytes and length go to zero, phase Uploading. The other flash names leave all as it is.
@@ -74,7 +74,7 @@ pub fn open_flash(
             control,
         };
     }
-    let Found::Nothing = find_row(table, control.rows, Wanted::Flash) else {
+    let Found::Nothing = find_row(table, control.rows, Wanted::OnFlash) else {
         return Act {
             said: Said::Refused(Code::BUSY),
             control,

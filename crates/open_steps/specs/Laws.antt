@@ -1,15 +1,13 @@
 -- A session opens by steps: first its slot or the flash, then its row. Assumes nothing.
 use mathlib.Core.Path.{_≡_, sym, _∙_, ap}
-use mathlib.Core.Bool.{Bool, cond}
+use mathlib.Core.Bool.{Bool, true, false, cond}
 use mathlib.Core.List.{List}
 use Prim.Native.Nat.{ℕ}
-use lib.Dec.{eqb}
-use borrow.Author.Tests.{ne-eqb}
 use lib.ListN.{set}
 use Rattle.laws.specs.Ranges.{block, block-steady, element-steady}
 use Rattle.laws.specs.Bits.{put-bit, putBit}
 use Rattle.laws.specs.Bytes.{bytesOf, padded}
-use Rattle.protocol.specs.Numbers.{rowCount, nameSize, slotSize, readWrite}
+use Rattle.protocol.specs.Numbers.{rowCount, nameSize, slotSize}
 use Rattle.protocol.specs.Frame.{reply}
 use Rattle.state.specs.State.{State, Place, slot, flash, Body, Slots, inRow, inBody, inStore, slotOf}
 use Rattle.state.specs.Parts.{slotOf-steady}
@@ -17,8 +15,9 @@ use Rattle.state.specs.Soundness.{slotAt}
 use Rattle.rules.specs.Store.{withStaged}
 use Rattle.rules.specs.Open.{freshId, after, withNext, newRow, opened, heldSlot}
 use Rattle.memory_slots.specs.Slots.{stagedAs, staged-put}
-use Rattle.places.specs.Laws.{fresh-same}
+use Rattle.lookup.specs.Laws.{fresh-same}
 use Rattle.open_steps.specs.Steps.{named, rowOpened}
+use Rattle.state.specs.Words.{writesWith}
 
 -- the identifier hangs on no slot, and not on the flash
 fresh-put : (p : Place) (b : Body p) (s : State) → freshId (inBody p .put b s) ≡ freshId s
@@ -45,13 +44,13 @@ named-put k n x names slots p q = λ i. record {
 
 -- ---- a held name's slot
 module _ (k flags : ℕ) (s : State) where
-  pub held-read : (flags ≡ readWrite → ⊥) → s ≡ inBody (slot k) .put (heldSlot flags (slotAt k s)) s
-  held-read h =
-      sym (ap (λ (y : Bool). inBody (slot k) .put (cond y (withStaged (slotAt k s .committedBytes) (slotAt k s .committedLen) (slotAt k s)) (slotAt k s)) s) (ne-eqb flags readWrite h)
-      ∙ ap (λ (x : Slots). inStore .put x s) (slotOf-steady k (s .store)))
+  held : (y : Bool) → writesWith flags ≡ y
+      → inBody (slot k) .put (cond y (withStaged (slotAt k s .committedBytes) (slotAt k s .committedLen) (slotAt k s)) (slotAt k s)) s ≡ inBody (slot k) .put (heldSlot flags (slotAt k s)) s
+  held y e = ap (λ (z : Bool). inBody (slot k) .put (cond z (withStaged (slotAt k s .committedBytes) (slotAt k s .committedLen) (slotAt k s)) (slotAt k s)) s) (sym e)
 
-  pub held-written : flags ≡ readWrite → (g : List ℕ) → g ≡ block slotSize k .put (slotAt k s .committedBytes) (s .store .staged)
+  pub held-read : writesWith flags ≡ false → s ≡ inBody (slot k) .put (heldSlot flags (slotAt k s)) s
+  held-read e = sym (ap (λ (x : Slots). inStore .put x s) (slotOf-steady k (s .store))) ∙ held false e
+
+  pub held-written : writesWith flags ≡ true → (g : List ℕ) → g ≡ block slotSize k .put (slotAt k s .committedBytes) (s .store .staged)
       → inStore .put (stagedAs g (set (s .store .stagedLens) k (slotAt k s .committedLen)) (s .store)) s ≡ inBody (slot k) .put (heldSlot flags (slotAt k s)) s
-  held-written h g e =
-      ap (λ (x : Slots). inStore .put x s) (sym (staged-put k (s .store) g (slotAt k s .committedBytes) (slotAt k s .committedLen) e))
-      ∙ ap (λ (f : ℕ). inBody (slot k) .put (heldSlot f (slotAt k s)) s) (sym h)
+  held-written h g e = ap (λ (x : Slots). inStore .put x s) (sym (staged-put k (s .store) g (slotAt k s .committedBytes) (slotAt k s .committedLen) e)) ∙ held true h

@@ -11,11 +11,10 @@ ghost use Rattle.state.specs.Lent.{TableLent, NamesLent, RegionsLent};
 ghost use Rattle.rules.specs.Open.{heldSlot};
 ghost use Rattle.response_types.specs.After.{afterAct};
 ghost use Rattle.open_steps.specs.Steps.{named, rowOpened};
+use lookup::fresh_id;
+use lookup::next_id;
 use memory_slots::copy_region;
 use memory_slots::put_name;
-use places::fresh_id;
-use places::next_id;
-use protocol::Flags;
 use response_types::Act;
 use response_types::Said;
 use state::Control;
@@ -24,6 +23,7 @@ use state::mask::set_bit;
 use state::row::Entry;
 use state::row::word_with;
 use state::row::write_row;
+use state::row::writes_with;
 
 // Row r becomes that of a new session on the blob; its identifier is answered, and "next" becomes the identifier's successor.
 pub fn open_row(
@@ -85,7 +85,7 @@ pub fn stage_slot(
     requires { ⌜ (k < slotCount) × (RegionsLent (now committed) × RegionsLent (now staged)) ⌝ }
     ensures { λ v. ⌜ ((table names image hash : List ℕ) → stateOf v table names (now (committed .entry)) (now (staged .exit)) image hash ≡ inBody (slot k) .put (heldSlot flags (slotAt k (stateOf control table names (now (committed .entry)) (now (staged .entry)) image hash))) (stateOf control table names (now (committed .entry)) (now (staged .entry)) image hash)) ⌝ }
 {
-    if flags != Flags::READ_WRITE.0 {
+    if !writes_with(flags as u32) {
         return control;
     }
     copy_region(staged, committed, k);

@@ -4,21 +4,20 @@ use mathlib.Core.Bool.{Bool, true, false, cond}
 use mathlib.Core.List.{List}
 use mathlib.Core.Option.{Option, none, some}
 use Prim.Native.Nat.{ℕ}
-use lib.Dec.{eqb}
-use borrow.Author.Tests.{eq-eqb, ne-eqb, eqb-true}
+use borrow.Author.Tests.{eqb-true}
 use Rattle.laws.specs.Find.{first, found}
 use Rattle.laws.specs.Masks.{clear}
-use Rattle.protocol.specs.Numbers.{slotCount, readOnly, notFound, noRoom, busy, invalid}
+use Rattle.protocol.specs.Numbers.{slotCount, notFound, noRoom, busy, invalid}
 use Rattle.protocol.specs.Frame.{refused}
 use Rattle.state.specs.State.{State, Slot, inBody, slot}
 use Rattle.state.specs.Soundness.{slotAt}
-use Rattle.rules.specs.Open.{rowOn, freeRowIn, freeSlotIn, openNew, openFree, openHeld, openNamed, openStore, slotNamed, newSlot, heldSlot}
-use Rattle.memory_slots.specs.Lookup.{rowSought, by-blob}
-use Rattle.memory_slots.specs.declared.Wanted.the-variants.{Blob}
-use Rattle.places.specs.Search.{holds, slot-named, free-row, free-slot}
+use Rattle.rules.specs.Open.{freeRowIn, freeSlotIn, openNew, openFree, openHeld, openNamed, openStore, slotNamed, newSlot, heldSlot}
+use Rattle.state.specs.declared.row.Wanted.the-variants.{OnBlob}
+use Rattle.rules.specs.Session.{rowFound}
+use Rattle.lookup.specs.Search.{free-row, free-slot}
 use Rattle.open_steps.specs.Steps.{FreeZero, named, rowOpened}
 use Rattle.open_steps.specs.Laws.{opened-is}
-use Rattle.state.specs.Words.{storeFlags}
+use Rattle.state.specs.Words.{storeFlags, writesWith}
 
 -- ---- a new name
 module _ (n : List ℕ) (flags t : ℕ) (s : State) where
@@ -43,21 +42,21 @@ module _ (n : List ℕ) (flags t : ℕ) (s : State) where
 
 -- ---- a held name
 module _ (k flags t : ℕ) (s : State) where
-  held-row : (o : Option ℕ) → rowSought (Blob k) s ≡ o → openHeld o k flags t s ≡ openHeld (rowOn k s) k flags t s
-  held-row o e = ap (λ (x : Option ℕ). openHeld x k flags t s) (sym (sym (by-blob k s) ∙ e))
+  held-row : (o : Option ℕ) → rowFound (OnBlob k) s ≡ o → openHeld o k flags t s ≡ openHeld (rowFound (OnBlob k) s) k flags t s
+  held-row o e = ap (λ (x : Option ℕ). openHeld x k flags t s) (sym e)
 
-  pub held-busy : (q : ℕ) → rowSought (Blob k) s ≡ some q → (refused busy, s) ≡ openHeld (rowOn k s) k flags t s
+  pub held-busy : (q : ℕ) → rowFound (OnBlob k) s ≡ some q → (refused busy, s) ≡ openHeld (rowFound (OnBlob k) s) k flags t s
   held-busy q e = held-row (some q) e
 
-  module _ (e : rowSought (Blob k) s ≡ none) where
-    held-free : (o : Option ℕ) → first (clear (s .sessions .rows)) slotCount ≡ o → openFree o k flags t s ≡ openHeld (rowOn k s) k flags t s
+  module _ (e : rowFound (OnBlob k) s ≡ none) where
+    held-free : (o : Option ℕ) → first (clear (s .sessions .rows)) slotCount ≡ o → openFree o k flags t s ≡ openHeld (rowFound (OnBlob k) s) k flags t s
     held-free o f = ap (λ (x : Option ℕ). openFree x k flags t s) (sym (free-row s ∙ f)) ∙ held-row none e
 
-    pub held-no-row : first (clear (s .sessions .rows)) slotCount ≡ none → (refused noRoom, s) ≡ openHeld (rowOn k s) k flags t s
+    pub held-no-row : first (clear (s .sessions .rows)) slotCount ≡ none → (refused noRoom, s) ≡ openHeld (rowFound (OnBlob k) s) k flags t s
     held-no-row f = held-free none f
 
     pub held-ok : (r : ℕ) → first (clear (s .sessions .rows)) slotCount ≡ some r
-        → rowOpened r k flags 1 t (inBody (slot k) .put (heldSlot flags (slotAt k s)) s) ≡ openHeld (rowOn k s) k flags t s
+        → rowOpened r k flags 1 t (inBody (slot k) .put (heldSlot flags (slotAt k s)) s) ≡ openHeld (rowFound (OnBlob k) s) k flags t s
     held-ok r f = opened-is (slot k) r k flags 1 t (heldSlot flags (slotAt k s)) s ∙ held-free (some r) f
 
 -- ---- flags and name
@@ -67,21 +66,21 @@ module _ (n : List ℕ) (flags t : ℕ) (s : State) where
   flags-bad p = ap (λ (x : Bool). cond x (openNamed (slotNamed n s) n flags t s) (refused invalid, s)) (sym p)
 
   module _ (p : storeFlags flags ≡ true) where
-    with-name : (o : Option ℕ) → first (holds n (s .store .names) (s .store .slots)) slotCount ≡ o → openNamed o n flags t s ≡ openStore n flags t s
+    with-name : (o : Option ℕ) → slotNamed n s ≡ o → openNamed o n flags t s ≡ openStore n flags t s
     unfolding openStore
     with-name o e =
-        ap (λ (x : Option ℕ). openNamed x n flags t s) (sym (slot-named n s ∙ e))
+        ap (λ (x : Option ℕ). openNamed x n flags t s) (sym e)
         ∙ ap (λ (x : Bool). cond x (openNamed (slotNamed n s) n flags t s) (refused invalid, s)) (sym p)
 
-    pub name-held : (k : ℕ) → first (holds n (s .store .names) (s .store .slots)) slotCount ≡ some k → openHeld (rowOn k s) k flags t s ≡ openStore n flags t s
+    pub name-held : (k : ℕ) → slotNamed n s ≡ some k → openHeld (rowFound (OnBlob k) s) k flags t s ≡ openStore n flags t s
     name-held k e = with-name (some k) e
 
-    module _ (e : first (holds n (s .store .names) (s .store .slots)) slotCount ≡ none) where
-      choice : (b : Bool) → eqb flags readOnly ≡ b → cond b (refused notFound, s) (openNew (freeRowIn s) (freeSlotIn s) n flags t s) ≡ openStore n flags t s
-      choice b q = ap (λ (x : Bool). cond x (refused notFound, s) (openNew (freeRowIn s) (freeSlotIn s) n flags t s)) (sym q) ∙ with-name none e
+    module _ (e : slotNamed n s ≡ none) where
+      choice : (b : Bool) → writesWith flags ≡ b → cond b (openNew (freeRowIn s) (freeSlotIn s) n flags t s) (refused notFound, s) ≡ openStore n flags t s
+      choice b q = ap (λ (x : Bool). cond x (openNew (freeRowIn s) (freeSlotIn s) n flags t s) (refused notFound, s)) (sym q) ∙ with-name none e
 
-      pub name-absent : flags ≡ readOnly → (refused notFound, s) ≡ openStore n flags t s
-      name-absent q = choice true (eq-eqb flags readOnly q)
+      pub name-absent : writesWith flags ≡ false → (refused notFound, s) ≡ openStore n flags t s
+      name-absent q = choice false q
 
-      pub name-new : (flags ≡ readOnly → ⊥) → openNew (freeRowIn s) (freeSlotIn s) n flags t s ≡ openStore n flags t s
-      name-new q = choice false (ne-eqb flags readOnly q)
+      pub name-new : writesWith flags ≡ true → openNew (freeRowIn s) (freeSlotIn s) n flags t s ≡ openStore n flags t s
+      name-new q = choice true q

@@ -7,30 +7,25 @@ ghost use Rattle.laws.specs.Ranges.{part};
 ghost use Rattle.protocol.specs.Numbers.{slotCount, nameMost, sixteenBits};
 ghost use Rattle.state.specs.State.{storeOf, stateOf};
 ghost use Rattle.state.specs.Lent.{TableLent, NamesLent, RegionsLent};
-ghost use Rattle.rules.specs.Open.{rowOn, freeRowIn, freeSlotIn, openNew, openHeld, openStore};
+ghost use Rattle.rules.specs.Open.{freeRowIn, freeSlotIn, openNew, openHeld, openStore};
 ghost use Rattle.response_types.specs.After.{afterAct};
 ghost use Rattle.open_steps.specs.Steps.{FreeZero};
-ghost use Rattle.state.specs.Words.{storeFlags};
-use memory_slots::Wanted;
-use memory_slots::find_row;
+ghost use Rattle.state.specs.declared.row.Wanted.the-variants.{OnBlob};
+ghost use Rattle.rules.specs.Session.{rowFound};
+use lookup::find_name;
+use lookup::find_row;
 use open_steps::new_slot;
 use open_steps::open_row;
 use open_steps::stage_slot;
-use places::find_name;
 use protocol::Code;
-use protocol::Flags;
 use response_types::Act;
 use response_types::Said;
 use state::Control;
 use state::mask::Found;
 use state::mask::lowest_free;
-
-// The flags that a store name allows.
-fn store_flags(flags: u16) -> bool
-    ensures { λ x. ⌜ x ≡ storeFlags flags ⌝ }
-{
-    (flags == Flags::READ.0) | (flags == Flags::READ_WRITE.0)
-}
+use state::row::Wanted;
+use state::row::store_flags;
+use state::row::writes_with;
 
 // A new name, which stands in the message, takes the lowest free row and slot.
 fn open_new(
@@ -73,9 +68,9 @@ fn open_held(
     staged: &mut [u8],
 ) -> Act
     requires { ⌜ (k < slotCount) × ((control .next < sixteenBits) × (TableLent (now table) × (RegionsLent (now committed) × RegionsLent (now staged)))) ⌝ }
-    ensures { λ o. ⌜ ((names image hash answer : List ℕ) → afterAct o (now (table .exit)) names (now (committed .entry)) (now (staged .exit)) image hash answer ≡ openHeld (rowOn k (stateOf control (now (table .entry)) names (now (committed .entry)) (now (staged .entry)) image hash)) k flags clock (stateOf control (now (table .entry)) names (now (committed .entry)) (now (staged .entry)) image hash)) ⌝ }
+    ensures { λ o. ⌜ ((names image hash answer : List ℕ) → afterAct o (now (table .exit)) names (now (committed .entry)) (now (staged .exit)) image hash answer ≡ openHeld (rowFound (OnBlob k) (stateOf control (now (table .entry)) names (now (committed .entry)) (now (staged .entry)) image hash)) k flags clock (stateOf control (now (table .entry)) names (now (committed .entry)) (now (staged .entry)) image hash)) ⌝ }
 {
-    let Found::Nothing = find_row(table, control.rows, Wanted::Blob(k as u32)) else {
+    let Found::Nothing = find_row(table, control.rows, Wanted::OnBlob(k as u32)) else {
         return Act {
             said: Said::Refused(Code::BUSY),
             control,
@@ -107,7 +102,7 @@ pub fn open_store(
     requires { ⌜ ((start + len ≤ length (now message)) × (len ≤ nameMost)) × ((control .next < sixteenBits) × (TableLent (now table) × (NamesLent (now names) × (RegionsLent (now committed) × (RegionsLent (now staged) × FreeZero (storeOf control (now names) (now committed) (now staged))))))) ⌝ }
     ensures { λ o. ⌜ ((image hash answer : List ℕ) → afterAct o (now (table .exit)) (now (names .exit)) (now (committed .exit)) (now (staged .exit)) image hash answer ≡ openStore (part start len (now (message .entry))) flags clock (stateOf control (now (table .entry)) (now (names .entry)) (now (committed .entry)) (now (staged .entry)) image hash)) ⌝ }
 {
-    if !store_flags(flags) {
+    if !store_flags(flags as u32) {
         return Act {
             said: Said::Refused(Code::INVALID),
             control,
@@ -116,7 +111,7 @@ pub fn open_store(
     if let Found::At(k) = find_name(names, control.slots, message, start, len) {
         return open_held(k, flags, clock, control, table, committed, staged);
     }
-    if flags == Flags::READ.0 {
+    if !writes_with(flags as u32) {
         return Act {
             said: Said::Refused(Code::NOT_FOUND),
             control,

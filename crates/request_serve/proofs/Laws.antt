@@ -21,7 +21,8 @@ use Rattle.state.specs.Parts.{Shape}
 use Rattle.state.specs.Soundness.{slotAt, lentRight, valuesFit, flashFits, rowOk, rowsApart, hasWriter, usedSlot, unusedSlot, slotOk, namesApart, isSound}
 use Rattle.state.specs.Agree.{sound-of-test, test-of-sound}
 use Rattle.rules.specs.Command.{write}
-use Rattle.rules.specs.Session.{by, onSession}
+use Rattle.state.specs.declared.row.Wanted.the-variants.{Id}
+use Rattle.rules.specs.Session.{onSession}
 use Rattle.rules.specs.Sweep.{swept}
 use Rattle.guarantees.specs.Keep.{swept-sound}
 
@@ -71,7 +72,7 @@ pub inside-of : (m : List ℕ) (p q : Request) → p ≡ decoded m → p ≡ q �
 inside-of m p q d e = subst (Inside m) (sym d ∙ e) (decoded-inside m)
 
 -- a Write's bytes, as `&message[start..]`
-pub write-rest : (id t offset start : ℕ) (m : List ℕ) (s : State) (x : Reply × State) → x ≡ onSession (by id) t (write offset (take (length m - start) (drop start m))) s
-    → x ≡ onSession (by id) t (write offset (drop start m)) s
+pub write-rest : (id t offset start : ℕ) (m : List ℕ) (s : State) (x : Reply × State) → x ≡ onSession (Id id) t (write offset (take (length m - start) (drop start m))) s
+    → x ≡ onSession (Id id) t (write offset (drop start m)) s
 write-rest id t offset start m s x h =
-    h ∙ ap (λ (w : List ℕ). onSession (by id) t (write offset w) s) (take-all (length m - start) (drop start m) (omega (arith, length-drop start m)))
+    h ∙ ap (λ (w : List ℕ). onSession (Id id) t (write offset w) s) (take-all (length m - start) (drop start m) (omega (arith, length-drop start m)))

@@ -3,7 +3,7 @@ use mathlib.Core.Path.{_≡_, refl, sym, _∙_, ap, subst}
 use mathlib.Core.Logic.{_≢_}
 use mathlib.Core.Bool.{Bool, true, false, not, _&&_}
 use mathlib.Core.List.{List, [], _∷_}
-use Prim.Native.Nat.{ℕ, _+_, _-_, _≤_, _<_}
+use Prim.Native.Nat.{ℕ, _+_, _≤_, _<_}
 use native.Mathlib.Omega.{arith}
 use lib.Dec.{eqb, leb, ltb}
 use borrow.Author.Tests.{ne-eqb}
@@ -28,7 +28,8 @@ use Rattle.state.specs.Agree.{sound-of-test, place-slot}
 use Rattle.state.specs.Fresh.{fresh-sound}
 use Rattle.rules.specs.Store.{seenBytes, seenLength, readStore, stored, writeStore, onStore, readCount}
 use Rattle.rules.specs.Command.{Command, read, write, Out, placed}
-use Rattle.rules.specs.Session.{onPlace, by, onSession}
+use Rattle.state.specs.declared.row.Wanted.the-variants.{Id}
+use Rattle.rules.specs.Session.{onPlace, onSession}
 use Rattle.rules.specs.Sweep.{stale, sweepRows, noted, swept}
 use Rattle.rules.specs.Open.{flashListed, openBlob}
 use Rattle.rules.specs.Listing.{committedNames, flashNames, listed, count}
@@ -107,7 +108,7 @@ pub record Starred : Type 0 where
   pub opens-base : decoded (askOpen readOnly base) ≡ Open readOnly Base
 
 -- ---- how a session's command is answered
-store-reply : (n t i : ℕ) (c : Command) (s : State) → Sees n i s → onSession (by (ident i s)) t c s .0 ≡ onStore t c (inRow i .get s) (slotAt (blob i s) s) .0
+store-reply : (n t i : ℕ) (c : Command) (s : State) → Sees n i s → onSession (Id (ident i s)) t c s .0 ≡ onStore t c (inRow i .get s) (slotAt (blob i s) s) .0
 store-reply n t i c s h =
     ap (λ (x : Reply × State). x .0) (session-row t i c s (sound-of-test s (h .is-sound)) (h .is-live)) ∙ ap (λ (p : Place). onPlace p i t c s .0) (place-slot (blob i s) (h .on-store))
 
@@ -191,7 +192,7 @@ write-reply offset t i bytes s x h ho hb f =
     let d = write-decoded (ident i s) offset bytes (ident-small 4060 i s (h .session)) ho hb in
     let n : b .stagedLen ≡ 4060 = sym (ap (λ (y : Bool). seenLength y b) (h .writing)) ∙ h .session .sees in
     reply-is t m s (Write (ident i s) offset (fieldsAt + 6)) x (h .session .is-sound) (d .0)
-    (ap (λ (ws : List ℕ). onSession (by (ident i s)) t (write offset ws) s .0) (d .1)
+    (ap (λ (ws : List ℕ). onSession (Id (ident i s)) t (write offset ws) s .0) (d .1)
     ∙ store-reply 4060 t i (write offset bytes) s (h .session)
     ∙ ap (λ (y : Bool). writeStore y bytes t offset r b .0) (h .writing)
     ∙ ap (λ (y : ℕ). placed slotSize y offset (length bytes) r b (stored bytes t offset r b) .0) n ∙ f) .0

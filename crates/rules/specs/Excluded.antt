@@ -5,7 +5,7 @@ use mathlib.Core.Logic.{_≢_}
 use mathlib.Core.Bool.{Bool, true, false, _&&_, true≢false}
 use mathlib.Core.Option.{Option, none, some}
 use mathlib.Core.List.{List, [], _∷_, _++_}
-use Prim.Native.Nat.{ℕ, suc, _+_, _-_, _/_, _%_, _≤_, _<_, max}
+use Prim.Native.Nat.{ℕ, suc, _+_, _/_, _%_, _≤_, _<_, max}
 use native.Mathlib.Omega.{arith}
 use native.Mathlib.Decide.{ℕ-discrete}
 use lib.Dec.{eqb}
@@ -13,9 +13,9 @@ use lib.ListN.{length, getD, set, length-set}
 use lib.Seq.{getD-set-same, getD-set-other}
 use Rattle.laws.specs.All.{all}
 use Rattle.laws.specs.Bytes.{little, bytesOf, same, same-refl, padded}
-use Rattle.laws.specs.Find.{first, first-none, first-some}
+use Rattle.laws.specs.Find.{first-none, first-some}
 use Rattle.laws.specs.Ranges.{part, part-sets}
-use Rattle.protocol.specs.Numbers.{rowWords, rowCount, slotCount, nameSize, slotSize, readMost, invalid, noRoom, busy, notFound, notSupported, imageSize, hashSize, countCommand}
+use Rattle.protocol.specs.Numbers.{rowWords, slotCount, nameSize, slotSize, readMost, invalid, noRoom, busy, notFound, notSupported, imageSize, hashSize, countCommand}
 use Rattle.protocol.specs.Names.{base, kindOf}
 use Rattle.protocol.specs.Frame.{Reply, refused, done, reply, statFields, header}
 use Rattle.protocol.specs.declared.FlashKind.{FlashKind}
@@ -24,12 +24,11 @@ use Rattle.state.specs.declared.Phase.the-variants.{Uploading}
 use Rattle.state.specs.State.{State, Row, Slot, FlashBody, Place, slot, flash, Body}
 use Rattle.state.specs.Words.{wordOf, stampOf, flagsIn, statusOf, wordWith, writes, writingIn, stamped, withClean, flags-with, blobOf, flashFlags}
 use Rattle.state.specs.Soundness.{slotAt, isSound}
-use Rattle.rules.specs.Store.{readCount, readStore}
-use Rattle.rules.specs.Command.{Command, read, write, commit, stat, close, writeMeta, endJob, Out, refuse}
-use Rattle.rules.specs.Store.{stored, writeStore, onStore, seenLength, withStaged, seenBytes, commitWriting, commitStore}
-use Rattle.rules.specs.Command.{stateBits, bytesAfter, lengthAfter, commitFits}
-use Rattle.rules.specs.Session.{job, meant, onPart}
+use Rattle.rules.specs.Store.{readCount, readStore, stored, writeStore, onStore, seenLength, withStaged, seenBytes, commitWriting, commitStore}
+use Rattle.rules.specs.Command.{Command, read, write, commit, stat, close, writeMeta, endJob, Out, refuse, stateBits, bytesAfter, lengthAfter, commitFits}
+use Rattle.rules.specs.Session.{onPart, rowFound}
 use Rattle.rules.specs.Open.{slotNamed, freshId, after, opened, openFlash, openFlashListed, openFlashQuiet, openFlashFree, openedFlash, flashListed, freeRowIn}
+use Rattle.state.specs.declared.row.Wanted.the-variants.{OnFlash}
 use Rattle.rules.specs.Laws.{cond-has, placed-has}
 use Rattle.rules.specs.Messages.{thirtyTwoBits, four-bytes, sent}
 use Rattle.rules.specs.Situations.{writer, writer-slot, other-slot}
@@ -171,7 +170,7 @@ opening-uploads k flags t s h =
     quiet (some q) = not-uploading busy s
 
     listed : (y : Bool) → NowUploading (openFlashListed y k t s)
-    listed true = quiet (first (meant job s) rowCount)
+    listed true = quiet (rowFound OnFlash s)
     listed false = not-uploading notFound s
 
 -- ---- one with a shared latest time for all stamps

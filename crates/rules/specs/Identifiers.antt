@@ -1,20 +1,20 @@
 -- The identifier that Open gives out is unused, and the one before it is not given out straight again. Assumes nothing.
 use mathlib.Core.Path.{_≡_, refl, sym, _∙_, ap, subst}
 use mathlib.Core.Logic.{_≢_}
-use mathlib.Core.Bool.{Bool, true, false, cond, true≢false}
+use mathlib.Core.Bool.{Bool, true, false, cond}
 use mathlib.Core.Option.{Option, none, some}
 use Prim.Native.Nat.{ℕ, zero, suc, _+_, _%_, _<_, _≤_}
 use native.Mathlib.Omega.{arith}
 use lib.Dec.{eqb}
 use borrow.Author.Tests.{eqb-true, eqb-false, eq-eqb}
-use Rattle.laws.specs.All.{and-true, and-both}
-use Rattle.laws.specs.Find.{first, found, missed}
 use Rattle.laws.specs.Pigeon.{pigeon}
 use Rattle.protocol.specs.Numbers.{rowCount, sixteenBits}
-use Rattle.state.specs.State.{State, inRow}
-use Rattle.state.specs.Words.{ident, inUse, Live}
-use Rattle.rules.specs.Session.{by, meant}
+use Rattle.state.specs.State.{State}
+use Rattle.state.specs.Words.{ident, Live}
+use Rattle.state.specs.declared.row.Wanted.the-variants.{Id}
+use Rattle.rules.specs.Session.{rowFound}
 use Rattle.rules.specs.Open.{after, unless, freshFrom, freshId}
+use Rattle.rules.specs.Searches.{found-row, no-row}
 
 -- the successor of an identifier is one
 pub after-small : (id : ℕ) → id < sixteenBits → after id < sixteenBits
@@ -42,7 +42,7 @@ ahead-is (suc d) id h = ahead-is d (after id) (after-small id h) ∙ (let e = af
 
 module _ (s : State) where
   abbrev owner : ℕ → Option ℕ
-  owner id = first (meant (by id) s) rowCount
+  owner id = rowFound (Id id) s
 
   -- what is given out is an identifier
   pub fresh-small : (n id : ℕ) → id < sixteenBits → freshFrom n id s < sixteenBits
@@ -73,7 +73,7 @@ module _ (s : State) where
       go (some x) e q (suc d) l ih = ih q d (omega arith)
 
   owner-id : (id r : ℕ) → owner id ≡ some r → ident r s ≡ id
-  owner-id id r h = let f = found (meant (by id) s) rowCount r h in eqb-true (ident r s) id (and-true (inUse r s) (eqb (ident r s) id) (f .passes) .1)
+  owner-id id r h = eqb-true (ident r s) id (found-row (Id id) s r h .1)
 
   untaken : (id : ℕ) → id < sixteenBits → owner (freshFrom rowCount id s) ≡ none
   untaken id small = go (owner (freshFrom rowCount id s)) refl
@@ -81,7 +81,7 @@ module _ (s : State) where
       go : (o : Option ℕ) → owner (freshFrom rowCount id s) ≡ o → owner (freshFrom rowCount id s) ≡ none
       go none e = e
       go (some r) e = absurd (pigeon rowCount (λ (d : ℕ). orZero (owner (ahead d id)))
-          (λ (d : ℕ) (l : d < suc rowCount). found (meant (by (ahead d id)) s) rowCount (orZero (owner (ahead d id))) (all-taken rowCount id r e d l) .low)
+          (λ (d : ℕ) (l : d < suc rowCount). found-row (Id (ahead d id)) s (orZero (owner (ahead d id))) (all-taken rowCount id r e d l) .0 .0)
           (λ (d f : ℕ) (hd : d < suc rowCount) (hf : f < suc rowCount) (q : orZero (owner (ahead d id)) ≡ orZero (owner (ahead f id))).
           let a = owner-id (ahead d id) (orZero (owner (ahead d id))) (all-taken rowCount id r e d hd) in
           let b = owner-id (ahead f id) (orZero (owner (ahead f id))) (all-taken rowCount id r e f hf) in
@@ -91,8 +91,7 @@ module _ (s : State) where
 
   -- no session has it
   pub fresh-unused : s .next < sixteenBits → (q : ℕ) → Live q s → ident q s ≢ freshId s
-  fresh-unused h q l e =
-      true≢false (sym (and-both _ _ (eq-eqb (inRow q .get s .used) 1 (l .1)) (eq-eqb (ident q s) (freshId s) e)) ∙ missed (meant (by (freshId s)) s) rowCount (untaken (s .next) h) q (l .0))
+  fresh-unused h q l e = no-row (Id (freshId s)) s (untaken (s .next) h) q l (eq-eqb (ident q s) (freshId s) e)
 
   -- it is one of the seventeen from "next" on
   not-given : (n id old : ℕ) → ((d : ℕ) → d ≤ n → ahead d id ≢ old) → freshFrom n id s ≢ old

@@ -12,7 +12,8 @@ use Rattle.state.specs.State.{State, Row, inRow, placeOf, inBody, cell}
 use Rattle.state.specs.Parts.{cell-row-other, table-kept}
 use Rattle.state.specs.Soundness.{isSound}
 use Rattle.rules.specs.Command.{endJob, Out, refuse, placed, Command}
-use Rattle.rules.specs.Session.{job, onSession, onRow, onPart}
+use Rattle.state.specs.declared.row.Wanted.the-variants.{OnFlash}
+use Rattle.rules.specs.Session.{onSession, onRow, onPart}
 use Rattle.rules.specs.Respond.{effectOf, unsound, answered, respond, silent, jobOutcome}
 use mathlib.Core.Logic.{_≢_}
 use Rattle.state.specs.Words.{blob}
@@ -25,9 +26,9 @@ respond-is t m s h =
     ap (λ (y : Bool). cond y (effectOf (framed (numberOf (decoded m)) (answered (decoded m) t m s .0)) (answered (decoded m) t m s .1)) (unsound s)) h
 
 -- a job outcome in a sound state
-pub job-is : (good : Bool) (s : State) → isSound s ≡ true → jobOutcome good s ≡ effectOf (silent (onSession job 0 (endJob good) s .0)) (onSession job 0 (endJob good) s .1)
+pub job-is : (good : Bool) (s : State) → isSound s ≡ true → jobOutcome good s ≡ effectOf (silent (onSession OnFlash 0 (endJob good) s .0)) (onSession OnFlash 0 (endJob good) s .1)
 unfolding jobOutcome
-job-is good s h = ap (λ (y : Bool). cond y (effectOf (silent (onSession job 0 (endJob good) s .0)) (onSession job 0 (endJob good) s .1)) (unsound s)) h
+job-is good s h = ap (λ (y : Bool). cond y (effectOf (silent (onSession OnFlash 0 (endJob good) s .0)) (onSession OnFlash 0 (endJob good) s .1)) (unsound s)) h
 
 -- what holds of both ways holds of a choice
 pub cond-has : {A : Type 0} (P : A → Type 0) (y : Bool) (a b : A) → P a → P b → P (cond y a b)

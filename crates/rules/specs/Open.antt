@@ -1,5 +1,5 @@
 -- Open, Delete and Stat: the commands that have a name.
-use mathlib.Core.Bool.{Bool, true, false, not, cond, _&&_, _||_}
+use mathlib.Core.Bool.{Bool, true, false, not, cond, _&&_}
 use mathlib.Core.List.{List, [], _∷_}
 use mathlib.Core.Option.{Option, none, some}
 use Prim.Native.Nat.{ℕ, zero, suc}
@@ -9,7 +9,7 @@ use Rattle.laws.specs.Ranges.{part}
 use Rattle.laws.specs.Bits.{bit}
 use Rattle.laws.specs.Find.{first}
 use Rattle.laws.specs.Bytes.{bytesOf, same, padded}
-use Rattle.protocol.specs.Numbers.{rowCount, slotCount, nameSize, slotSize, imageSize, hashSize, sixteenBits, readOnly, readWrite, writeOnly, untried, invalid, notFound, noRoom, busy, notSupported, stateCommitted}
+use Rattle.protocol.specs.Numbers.{rowCount, slotCount, nameSize, slotSize, imageSize, hashSize, sixteenBits, writeOnly, untried, invalid, notFound, noRoom, busy, notSupported, stateCommitted}
 use Rattle.protocol.specs.Names.{flashNumber}
 use Rattle.protocol.specs.Frame.{Reply, refused, done, reply, statFields}
 use Rattle.protocol.specs.declared.FlashKind.{FlashKind}
@@ -19,20 +19,20 @@ use Rattle.protocol.specs.declared.Blob.the-variants.{Store, Flash, Base, Unkno
 use Rattle.state.specs.declared.Phase.{Phase}
 use Rattle.state.specs.declared.Phase.the-variants.{Uploading}
 use Rattle.state.specs.State.{State, Row, Slot, FlashBody, Place, slot, flash, Body, inBody, cell}
-use Rattle.state.specs.Words.{wordWith, freeSlot, blob, inUse, writesWith, storeFlags, flashFlags}
+use Rattle.state.specs.Words.{wordWith, freeSlot, writesWith, storeFlags, flashFlags}
 use Rattle.state.specs.Soundness.{slotAt, isIdle, isVerified}
 use Rattle.rules.specs.Store.{withStaged}
 use Rattle.rules.specs.Flash.{withImage, withHash, withPhase, flashLength}
-use Rattle.rules.specs.Session.{by, job, meant, statRow}
+use Rattle.state.specs.declared.row.Wanted.the-variants.{Id, OnBlob, OnFlash}
+use Rattle.rules.specs.Session.{statRow, rowFound}
 
 -- ---- where things are
--- the used slot that holds a name
-unfoldable pub slotNamed : List ℕ → State → Option ℕ
-slotNamed n s = first (λ (k : ℕ). eqb (slotAt k s .held) 1 && same (slotAt k s .name) (padded nameSize n)) slotCount
+-- slot k is used and holds a name
+abbrev pub holds : List ℕ → State → ℕ → Bool
+holds n s k = eqb (slotAt k s .held) 1 && same (slotAt k s .name) (padded nameSize n)
 
--- the session on a blob
-unfoldable pub rowOn : ℕ → State → Option ℕ
-rowOn b s = first (λ (r : ℕ). inUse r s && eqb (blob r s) b) rowCount
+unfoldable pub slotNamed : List ℕ → State → Option ℕ
+slotNamed n s = first (holds n s) slotCount
 
 -- "the lowest free row and, for a new name, the lowest free slot"
 unfoldable pub freeRowIn : State → Option ℕ
@@ -52,7 +52,7 @@ unless (some r) id other = other
 -- among the first n and the one behind them
 unfoldable pub freshFrom : ℕ → ℕ → State → ℕ
 freshFrom zero id s = id
-freshFrom (suc n) id s = unless (first (meant (by id) s) rowCount) id (freshFrom n (after id) s)
+freshFrom (suc n) id s = unless (rowFound (Id id) s) id (freshFrom n (after id) s)
 
 -- 16 sessions at most are open, so one of 17 is unused
 abbrev pub freshId : State → ℕ
@@ -94,7 +94,7 @@ openHeld (some q) k flags t s = (refused busy, s)
 -- "absence (CB): .. a store name not held (in no used slot) and flags 0x0001"
 abbrev pub openNamed : Option ℕ → List ℕ → ℕ → ℕ → State → Reply × State
 openNamed none n flags t s = cond (writesWith flags) (openNew (freeRowIn s) (freeSlotIn s) n flags t s) (refused notFound, s)
-openNamed (some k) n flags t s = openHeld (rowOn k s) k flags t s
+openNamed (some k) n flags t s = openHeld (rowFound (OnBlob k) s) k flags t s
 
 unfoldable pub openStore : List ℕ → ℕ → ℕ → State → Reply × State
 openStore n flags t s = cond (storeFlags flags) (openNamed (slotNamed n s) n flags t s) (refused invalid, s)
@@ -125,7 +125,7 @@ openFlashQuiet none k t s = openFlashFree (freeRowIn s) k t s
 openFlashQuiet (some q) k t s = (refused busy, s)
 
 abbrev pub openFlashListed : Bool → FlashKind → ℕ → State → Reply × State
-openFlashListed true k t s = openFlashQuiet (first (meant job s) rowCount) k t s
+openFlashListed true k t s = openFlashQuiet (rowFound OnFlash s) k t s
 openFlashListed false k t s = (refused notFound, s)
 
 unfoldable pub openFlash : FlashKind → ℕ → ℕ → State → Reply × State
@@ -145,7 +145,7 @@ deleteQuiet (some q) k s = (refused busy, s)
 
 abbrev pub deleteNamed : Option ℕ → State → Reply × State
 deleteNamed none s = (refused notFound, s)
-deleteNamed (some k) s = deleteQuiet (rowOn k s) k s
+deleteNamed (some k) s = deleteQuiet (rowFound (OnBlob k) s) k s
 
 unfoldable pub deleteBlob : Blob → List ℕ → State → Reply × State
 deleteBlob (Store at len) m s = deleteNamed (slotNamed (part at len m) s) s
@@ -161,7 +161,7 @@ statSlot (some r) k s = reply (statRow r s)
 
 abbrev pub statNamed : Option ℕ → State → Reply
 statNamed none s = refused notFound
-statNamed (some k) s = statSlot (rowOn k s) k s
+statNamed (some k) s = statSlot (rowFound (OnBlob k) s) k s
 
 abbrev pub statKind : Option ℕ → FlashKind → State → Reply
 statKind none k s = reply (statFields 0 (flashLength k (s .flashGroup)))
@@ -170,6 +170,6 @@ statKind (some r) k s = reply (statRow r s)
 -- "Base: zeros."
 unfoldable pub statBlob : Blob → List ℕ → State → Reply
 statBlob (Store at len) m s = statNamed (slotNamed (part at len m) s) s
-statBlob (Flash k) m s = cond (flashListed k (s .flashGroup .phase)) (statKind (rowOn (flashNumber k) s) k s) (refused notFound)
+statBlob (Flash k) m s = cond (flashListed k (s .flashGroup .phase)) (statKind (rowFound (OnBlob (flashNumber k)) s) k s) (refused notFound)
 statBlob Base m s = reply (statFields 0 0)
 statBlob Unknown m s = refused notFound

@@ -12,7 +12,8 @@ use Rattle.protocol.specs.declared.Request.the-variants.{Count, Enumerate, Open
 use Rattle.state.specs.State.{State}
 use Rattle.state.specs.Soundness.{isSound}
 use Rattle.rules.specs.Command.{read, write, commit, stat, close, writeMeta, endJob}
-use Rattle.rules.specs.Session.{by, job, onSession}
+use Rattle.state.specs.declared.row.Wanted.the-variants.{Id, OnFlash}
+use Rattle.rules.specs.Session.{onSession}
 use Rattle.rules.specs.Sweep.{swept}
 use Rattle.rules.specs.Open.{openBlob, deleteBlob, statBlob}
 use Rattle.rules.specs.Listing.{counted, enumerated}
@@ -31,14 +32,14 @@ unfoldable pub answered : Request → (t : ℕ) → List ℕ → State → Reply
 answered Count t m s = (counted s, s)
 answered (Enumerate index) t m s = (enumerated index s, s)
 answered (Open flags blob) t m s = openBlob blob flags t m (swept t s)
-answered (Read session offset count) t m s = onSession (by session) t (read offset count) s
-answered (Write session offset start) t m s = onSession (by session) t (write offset (drop start m)) s
-answered (Commit session len rest) t m s = onSession (by session) t (commit len rest) s
-answered (Close session) t m s = onSession (by session) t close s
+answered (Read session offset count) t m s = onSession (Id session) t (read offset count) s
+answered (Write session offset start) t m s = onSession (Id session) t (write offset (drop start m)) s
+answered (Commit session len rest) t m s = onSession (Id session) t (commit len rest) s
+answered (Close session) t m s = onSession (Id session) t close s
 answered (Delete blob) t m s = deleteBlob blob m s
 answered (Stat blob) t m s = (statBlob blob m s, s)
-answered (SessionStat session) t m s = onSession (by session) t stat s
-answered (WriteMeta session) t m s = onSession (by session) t writeMeta s
+answered (SessionStat session) t m s = onSession (Id session) t stat s
+answered (WriteMeta session) t m s = onSession (Id session) t writeMeta s
 answered (Refused code) t m s = (refused (code .0), s)
 
 -- FF, and the state as it was (rule 7.12)
@@ -57,7 +58,7 @@ silent (reply f) = (success, [])
 
 -- A JOB OUTCOME, good or failed; it has no clock (rule 17.1)
 unfoldable pub jobOutcome : (good : Bool) → State → Effect
-jobOutcome good s = cond (isSound s) (effectOf (silent (onSession job 0 (endJob good) s .0)) (onSession job 0 (endJob good) s .1)) (unsound s)
+jobOutcome good s = cond (isSound s) (effectOf (silent (onSession OnFlash 0 (endJob good) s .0)) (onSession OnFlash 0 (endJob good) s .1)) (unsound s)
 
 -- ---- the answer buffer
 -- what a call leaves: completion code, response length, state, answer buffer

@@ -22,13 +22,13 @@ use Rattle.state.specs.Soundness.{slotAt}
 use Rattle.rules.specs.Store.{onStore}
 use Rattle.rules.specs.Command.{close}
 use Rattle.rules.specs.Flash.{closeFlash, onFlash}
-use Rattle.rules.specs.Session.{onPart, onRow, meant, job}
+use Rattle.state.specs.declared.row.Wanted.the-variants.{OnBlob, OnFlash}
+use Rattle.rules.specs.Session.{onPart, onRow, rowFound}
 use Rattle.rules.specs.Sweep.{stale, sweepRow, sweepRows, noted, due, swept}
 use Rattle.rules.specs.Open.{flashListed, openBlob, freshId, newRow, opened, newSlot, heldSlot, openNew, openFree, openHeld, openNamed, openStore, openedFlash, openFlashFree, openFlashQuiet, openFlashListed, openFlash, slotNamed}
-use Rattle.rules.specs.Open.{rowOn, freeRowIn, freeSlotIn}
+use Rattle.rules.specs.Open.{freeRowIn, freeSlotIn}
 use Rattle.rules.specs.Laws.{cond-has, other-rows, by-own-part, table-after}
 use Rattle.rules.specs.Searches.{free-row}
-use Rattle.laws.specs.Find.{first}
 use Rattle.protocol.specs.declared.FlashKind.{FlashKind}
 use Rattle.protocol.specs.declared.Blob.the-variants.{Store, Flash as BlobFlash, Base, Unknown}
 use mathlib.Core.Option.{Option, none, some}
@@ -164,7 +164,7 @@ module _ (t i : ℕ) (m : List ℕ) (s : State) (size : length (s .sessions .tab
 
       named : (o : Option ℕ) → Fine (openNamed o n flags t s)
       named none = cond-has Fine (writesWith flags) (openNew (freeRowIn s) (freeSlotIn s) n flags t s) (refused notFound, s) (new (freeRowIn s) (freeSlotIn s) refl) as-found
-      named (some k) = held k (rowOn k s)
+      named (some k) = held k (rowFound (OnBlob k) s)
 
   flash-fine : (k : FlashKind) (flags : ℕ) → Fine (openFlash k flags t s)
   unfolding openFlash
@@ -179,7 +179,7 @@ module _ (t i : ℕ) (m : List ℕ) (s : State) (size : length (s .sessions .tab
       quiet (some q) = as-found
 
       listed-fine : (y : Bool) → Fine (openFlashListed y k t s)
-      listed-fine true = quiet (first (meant job s) rowCount)
+      listed-fine true = quiet (rowFound OnFlash s)
       listed-fine false = as-found
 
   -- every Open

@@ -3,62 +3,55 @@ use mathlib.Core.Path.{_≡_, refl, sym, _∙_, ap}
 use mathlib.Core.Bool.{true}
 use mathlib.Core.List.{List}
 use mathlib.Core.Option.{Option, none}
-use Prim.Native.Nat.{ℕ, _*_, _≤_, _<_}
-use lib.Dec.{eqb, leb}
+use Prim.Native.Nat.{ℕ, _≤_}
+use lib.Dec.{leb}
 use borrow.Author.Tests.{leb-true}
-use lib.ListN.{getD, length}
-use Rattle.laws.specs.All.{and-true}
+use lib.ListN.{getD}
 use Rattle.laws.specs.Ranges.{block}
-use Rattle.laws.specs.Bits.{bit}
-use Rattle.laws.specs.Find.{first, found}
-use Rattle.protocol.specs.Numbers.{rowCount, rowWords, slotCount, notSupported}
+use Rattle.laws.specs.Find.{found}
+use Rattle.protocol.specs.Numbers.{rowWords, slotCount, notSupported}
 use Rattle.protocol.specs.Frame.{Reply, refused}
 use Rattle.state.specs.declared.mask.Found.{Found}
 use Rattle.state.specs.declared.mask.Found.the-variants.{At, Nothing}
 use Rattle.state.specs.declared.row.Entry.{Entry}
 use Rattle.state.specs.Entry.{wordsOf}
-use Rattle.state.specs.Answers.{optionOf}
-use Rattle.state.specs.State.{State, Row, Place, slot, flash, Body, placeOf, inRow, inBody, cell}
+use Rattle.state.specs.State.{State, Row, Place, slot, flash, Body, placeOf, inRow, inBody, cell, withRows}
 use Rattle.state.specs.Parts.{cell-steady}
-use Rattle.state.specs.Words.{blob}
+use Rattle.state.specs.Words.{blob, fresh}
+use Rattle.state.specs.Lent.{TableLent}
+use Rattle.state.specs.declared.row.Wanted.{Wanted}
+use Rattle.state.specs.declared.row.Wanted.the-variants.{OnFlash}
 use Rattle.state.specs.Agree.{place-flash}
 use Rattle.rules.specs.Store.{onStore}
 use Rattle.rules.specs.Command.{Command, read, writeMeta, refuse}
 use Rattle.rules.specs.Flash.{onFlash}
-use Rattle.rules.specs.Session.{Address, meant, absent, onPart, onPlace, onRow, onFound, onSession}
-use Rattle.memory_slots.specs.declared.Wanted.{Wanted}
-use Rattle.memory_slots.specs.declared.Wanted.the-variants.{Flash}
-use Rattle.memory_slots.specs.Lookup.{sought, rowSought}
+use Rattle.rules.specs.Session.{absent, onPart, onPlace, onRow, onFound, onSession}
+use Rattle.rules.specs.Searches.{found-row}
+use Rattle.lookup.specs.Search.{FoundRow, row-in, row-low}
 use Rattle.response_types.specs.After.{fieldsLaid}
 use Rattle.session_row.specs.OnRow.{refuses}
 use Rattle.session_row.specs.Lent.{RowIs}
 
--- whom the rules mean by what is looked up
-module _ (s : State) (a : Address) (w : Wanted) (same : rowSought w s ≡ first (meant a s) rowCount) (x : Found) (looked : optionOf x ≡ rowSought w s) where
+module _ (s : State) (t : ℕ) (cmd : Command) {w : Wanted} {x : Found} (looked : FoundRow x w (s .sessions .rows) (s .sessions .table)) where
   -- what is shown of the row that was found holds of the session
-  pub of-row : (r t : ℕ) (cmd : Command) (o : Reply × State) → x ≡ At r → o ≡ onRow r t cmd s → o ≡ onSession a t cmd s
+  pub of-row : {r : ℕ} {o : Reply × State} → x ≡ At r → o ≡ onRow r t cmd s → o ≡ onSession w t cmd s
   unfolding onSession
-  of-row r t cmd o p u = u ∙ ap (λ (y : Option ℕ). onFound y a t cmd s) (sym (ap optionOf p) ∙ looked ∙ same)
+  of-row p u = u ∙ ap (λ (y : Option ℕ). onFound y w t cmd s) (sym (row-in s looked p))
 
   -- no row was found
-  pub of-none : (t : ℕ) (cmd : Command) → x ≡ Nothing → (absent a, s) ≡ onSession a t cmd s
+  pub of-none : x ≡ Nothing → (absent w, s) ≡ onSession w t cmd s
   unfolding onSession
-  of-none t cmd p = ap (λ (y : Option ℕ). onFound y a t cmd s) (sym (ap optionOf p) ∙ looked ∙ same)
+  of-none p = ap (λ (y : Option ℕ). onFound y w t cmd s) (sym (row-in s looked p))
 
--- what was found in a table is a row of it
-module _ (w : Wanted) (table : List ℕ) (rows : ℕ) (x : Found) (r : ℕ) (looked : optionOf x ≡ first (sought w table rows) rowCount) (p : x ≡ At r) where
-  pub found-low : r < rowCount
-  found-low = found (sought w table rows) rowCount r (sym looked ∙ ap optionOf p) .low
-
-  -- read as e
-  pub row-is : (e : Entry) → length table ≡ rowCount * rowWords → block rowWords r .get table ≡ wordsOf e → RowIs table r e
-  row-is e size u = record { table-size = size; row-low = found-low; row-words = u }
+-- the row that was found, read as e
+pub row-is : {x : Found} {w : Wanted} {rows : ℕ} {table : List ℕ} {r : ℕ} {e : Entry} → FoundRow x w rows table → x ≡ At r → TableLent table → block rowWords r .get table ≡ wordsOf e → RowIs table r e
+row-is looked p size u = record { table-size = size; row-low = row-low looked p; row-words = u }
 
 -- the flash session's row names a flash blob
-pub found-flash : (table : List ℕ) (rows : ℕ) (x : Found) (r : ℕ) (e : Entry) → optionOf x ≡ first (sought Flash table rows) rowCount → x ≡ At r → block rowWords r .get table ≡ wordsOf e → slotCount ≤ e .blob
-found-flash table rows x r e looked p u =
-    let h = and-true (eqb (bit r rows) 1) (leb slotCount (getD (block rowWords r .get table) 1 0)) (found (sought Flash table rows) rowCount r (sym looked ∙ ap optionOf p) .passes) in
-    leb-true slotCount (e .blob) (sym (ap (λ (l : List ℕ). leb slotCount (getD l 1 0)) u) ∙ h .1)
+pub found-flash : {x : Found} {rows : ℕ} {table : List ℕ} {r : ℕ} {e : Entry} → FoundRow x OnFlash rows table → x ≡ At r → block rowWords r .get table ≡ wordsOf e → slotCount ≤ e .blob
+found-flash {rows = rows} {table = table} {r = r} {e = e} looked p u =
+    let h = found-row OnFlash (withRows rows table fresh) r (row-in (withRows rows table fresh) looked p) .1 in
+    leb-true slotCount (e .blob) (sym (ap (λ (l : List ℕ). leb slotCount (getD l 1 0)) u) ∙ h)
 
 -- "Read: .. not a store session (D5)"
 pub flash-read : (s : State) (r : ℕ) (e : Entry) → block rowWords r .get (s .sessions .table) ≡ wordsOf e → slotCount ≤ e .blob → (t offset count : ℕ) → (refused notSupported, s) ≡ onRow r t (read offset count) s

@@ -5,18 +5,19 @@ ghost use Prim.Native.Nat.{ℕ, _≤_, _<_};
 ghost use Rattle.protocol.specs.Numbers.{slotCount, readMost};
 ghost use Rattle.state.specs.State.{stateOf};
 ghost use Rattle.rules.specs.Command.{read, write, commit, stat, close, writeMeta, endJob};
-ghost use Rattle.rules.specs.Session.{onSession, by, job};
+ghost use Rattle.rules.specs.Session.{onSession};
+ghost use Rattle.state.specs.declared.row.Wanted.the-variants.{Id, OnFlash};
 ghost use Rattle.response_types.specs.After.{afterAct, afterSaid, fieldsLaid, fieldsLength};
 ghost use Rattle.state.specs.Lent.{TableLent, NamesLent, RegionsLent, ImageLent, HashLent, AnswerLent};
 ghost use Rattle.session_row.specs.Lent.{LengthsFit};
-use memory_slots::Wanted;
-use memory_slots::find_row;
+use lookup::find_row;
 use protocol::Code;
 use response_types::Act;
 use response_types::Said;
 use state::Control;
 use state::SLOTS;
 use state::mask::Found;
+use state::row::Wanted;
 use state::row::read_row;
 
 // Read.
@@ -32,7 +33,7 @@ pub fn read<'a>(
     count: u32,
 ) -> Said
     requires { ⌜ TableLent (now table) × (RegionsLent (now committed) × (RegionsLent (now staged) × (AnswerLent (now answer) × ((k : ℕ) → k < slotCount → LengthsFit control k)))) ⌝ }
-    ensures { λ o. ⌜ (fieldsLength o ≤ readMost) × ((names image hash : List ℕ) → (afterSaid o control (now (table .exit)) names (now (committed .entry)) (now (staged .entry)) image hash (now (answer .exit)) ≡ onSession (by id) clock (read offset count) (stateOf control (now (table .entry)) names (now (committed .entry)) (now (staged .entry)) image hash)) × (now (answer .exit) ≡ fieldsLaid (onSession (by id) clock (read offset count) (stateOf control (now (table .entry)) names (now (committed .entry)) (now (staged .entry)) image hash) .0) (now (answer .entry)))) ⌝ }
+    ensures { λ o. ⌜ (fieldsLength o ≤ readMost) × ((names image hash : List ℕ) → (afterSaid o control (now (table .exit)) names (now (committed .entry)) (now (staged .entry)) image hash (now (answer .exit)) ≡ onSession (Id id) clock (read offset count) (stateOf control (now (table .entry)) names (now (committed .entry)) (now (staged .entry)) image hash)) × (now (answer .exit) ≡ fieldsLaid (onSession (Id id) clock (read offset count) (stateOf control (now (table .entry)) names (now (committed .entry)) (now (staged .entry)) image hash) .0) (now (answer .entry)))) ⌝ }
 {
     let found = find_row(table, control.rows, Wanted::Id(id));
     match found {
@@ -71,7 +72,7 @@ pub fn write(
     bytes: &[u8],
 ) -> Act
     requires { ⌜ TableLent (now table) × (RegionsLent (now staged) × (ImageLent (now image) × HashLent (now hash))) ⌝ }
-    ensures { λ o. ⌜ ((names committed answer : List ℕ) → afterAct o (now (table .exit)) names committed (now (staged .exit)) (now (image .exit)) (now (hash .exit)) answer ≡ onSession (by id) clock (write offset (now (bytes .entry))) (stateOf control (now (table .entry)) names committed (now (staged .entry)) (now (image .entry)) (now (hash .entry)))) ⌝ }
+    ensures { λ o. ⌜ ((names committed answer : List ℕ) → afterAct o (now (table .exit)) names committed (now (staged .exit)) (now (image .exit)) (now (hash .exit)) answer ≡ onSession (Id id) clock (write offset (now (bytes .entry))) (stateOf control (now (table .entry)) names committed (now (staged .entry)) (now (image .entry)) (now (hash .entry)))) ⌝ }
 {
     let found = find_row(table, control.rows, Wanted::Id(id));
     match found {
@@ -103,7 +104,7 @@ pub fn commit(
     rest: usize,
 ) -> Act
     requires { ⌜ TableLent (now table) × (RegionsLent (now committed) × (RegionsLent (now staged) × (ImageLent (now image) × HashLent (now hash)))) ⌝ }
-    ensures { λ o. ⌜ ((names answer : List ℕ) → afterAct o (now (table .exit)) names (now (committed .exit)) (now (staged .entry)) (now (image .exit)) (now (hash .exit)) answer ≡ onSession (by id) clock (commit len rest) (stateOf control (now (table .entry)) names (now (committed .entry)) (now (staged .entry)) (now (image .entry)) (now (hash .entry)))) ⌝ }
+    ensures { λ o. ⌜ ((names answer : List ℕ) → afterAct o (now (table .exit)) names (now (committed .exit)) (now (staged .entry)) (now (image .exit)) (now (hash .exit)) answer ≡ onSession (Id id) clock (commit len rest) (stateOf control (now (table .entry)) names (now (committed .entry)) (now (staged .entry)) (now (image .entry)) (now (hash .entry)))) ⌝ }
 {
     let found = find_row(table, control.rows, Wanted::Id(id));
     match found {
@@ -143,7 +144,7 @@ pub fn close(
     id: u32,
 ) -> Act
     requires { ⌜ TableLent (now table) × (NamesLent (now names) × (RegionsLent (now committed) × (RegionsLent (now staged) × (ImageLent (now image) × HashLent (now hash))))) ⌝ }
-    ensures { λ o. ⌜ ((clock : ℕ) (answer : List ℕ) → afterAct o (now (table .exit)) (now (names .exit)) (now (committed .exit)) (now (staged .exit)) (now (image .exit)) (now (hash .exit)) answer ≡ onSession (by id) clock close (stateOf control (now (table .entry)) (now (names .entry)) (now (committed .entry)) (now (staged .entry)) (now (image .entry)) (now (hash .entry)))) ⌝ }
+    ensures { λ o. ⌜ ((clock : ℕ) (answer : List ℕ) → afterAct o (now (table .exit)) (now (names .exit)) (now (committed .exit)) (now (staged .exit)) (now (image .exit)) (now (hash .exit)) answer ≡ onSession (Id id) clock close (stateOf control (now (table .entry)) (now (names .entry)) (now (committed .entry)) (now (staged .entry)) (now (image .entry)) (now (hash .entry)))) ⌝ }
 {
     let found = find_row(table, control.rows, Wanted::Id(id));
     match found {
@@ -164,7 +165,7 @@ pub fn close(
 // SessionStat.
 pub fn stat(control: Control, table: &mut [u32], id: u32, clock: u32) -> Said
     requires { ⌜ TableLent (now table) ⌝ }
-    ensures { λ o. ⌜ ((names committed staged image hash answer : List ℕ) → afterSaid o control (now (table .exit)) names committed staged image hash answer ≡ onSession (by id) clock stat (stateOf control (now (table .entry)) names committed staged image hash)) ⌝ }
+    ensures { λ o. ⌜ ((names committed staged image hash answer : List ℕ) → afterSaid o control (now (table .exit)) names committed staged image hash answer ≡ onSession (Id id) clock stat (stateOf control (now (table .entry)) names committed staged image hash)) ⌝ }
 {
     let found = find_row(table, control.rows, Wanted::Id(id));
     match found {
@@ -182,7 +183,7 @@ pub fn stat(control: Control, table: &mut [u32], id: u32, clock: u32) -> Said
 // WriteMeta: no session supports it.
 pub fn write_meta(control: Control, table: &[u32], id: u32) -> Said
     requires { ⌜ TableLent (now table) ⌝ }
-    ensures { λ o. ⌜ ((clock : ℕ) (names committed staged image hash answer : List ℕ) → afterSaid o control (now (table .entry)) names committed staged image hash answer ≡ onSession (by id) clock writeMeta (stateOf control (now (table .entry)) names committed staged image hash)) ⌝ }
+    ensures { λ o. ⌜ ((clock : ℕ) (names committed staged image hash answer : List ℕ) → afterSaid o control (now (table .entry)) names committed staged image hash answer ≡ onSession (Id id) clock writeMeta (stateOf control (now (table .entry)) names committed staged image hash)) ⌝ }
 {
     let found = find_row(table, control.rows, Wanted::Id(id));
     match found {
@@ -194,9 +195,9 @@ pub fn write_meta(control: Control, table: &[u32], id: u32) -> Said
 // A job's outcome, of the flash session.
 pub fn end_job(control: Control, table: &mut [u32], good: bool) -> Said
     requires { ⌜ TableLent (now table) ⌝ }
-    ensures { λ o. ⌜ ((clock : ℕ) (names committed staged image hash answer : List ℕ) → afterSaid o control (now (table .exit)) names committed staged image hash answer ≡ onSession job clock (endJob good) (stateOf control (now (table .entry)) names committed staged image hash)) ⌝ }
+    ensures { λ o. ⌜ ((clock : ℕ) (names committed staged image hash answer : List ℕ) → afterSaid o control (now (table .exit)) names committed staged image hash answer ≡ onSession OnFlash clock (endJob good) (stateOf control (now (table .entry)) names committed staged image hash)) ⌝ }
 {
-    let found = find_row(table, control.rows, Wanted::Flash);
+    let found = find_row(table, control.rows, Wanted::OnFlash);
     match found {
         Found::At(r) => {
             let e = read_row(table, r);

@@ -94,6 +94,11 @@ withRows m t s = inSessions .put (record { table = t; rows = m }) s
 abbrev pub inStore : Lens State Slots
 inStore = record { get = λ (s : State). s .store; put = λ (x : Slots) (s : State). record { sessions = s .sessions; store = x; flashGroup = s .flashGroup; next = s .next; lastSweep = s .lastSweep } }
 
+-- the state with this mask of slots used and these names
+abbrev pub withNames : ℕ → List ℕ → State → State
+withNames m n s = inStore .put (record
+    { names = n; committed = s .store .committed; staged = s .store .staged; slots = m; marks = s .store .marks; committedLens = s .store .committedLens; stagedLens = s .store .stagedLens }) s
+
 abbrev pub inFlash : Lens State FlashBody
 inFlash = record { get = λ (s : State). s .flashGroup; put = λ (x : FlashBody) (s : State). record { sessions = s .sessions; store = s .store; flashGroup = x; next = s .next; lastSweep = s .lastSweep } }
 

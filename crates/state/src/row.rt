@@ -23,6 +23,13 @@ pub struct Entry {
     pub stamp: u32,
 }
 
+// The row that is looked for: the session of an identifier, the session on a blob, or the flash session.
+pub enum Wanted {
+    Id(u32),
+    OnBlob(u32),
+    OnFlash,
+}
+
 impl Entry {
     // An unused row.
     pub const FREE: Entry = Entry {

@@ -1,51 +1,59 @@
 -- `delete_store`: the name is not held, its blob is open, or its slot is freed.
-use mathlib.Core.List.{List}
-use mathlib.Core.Path.{sym, _∙_, ap}
+use mathlib.Core.Path.{_∙_, ap}
 use native.Mathlib.Omega.{arith}
-use Prim.Native.Nat.{ℕ, _<_}
-use Rattle.laws.specs.Ranges.{part}
-use Rattle.laws.specs.Find.{found}
+use Prim.Native.Nat.{_<_}
 use Rattle.protocol.specs.Numbers.{slotCount}
 use Rattle.protocol.specs.Frame.{done}
 use Rattle.state.specs.State.{State, stateOf}
-use Rattle.state.specs.Answers.{optionOf}
-use Rattle.places.specs.Search.{holds}
 use Rattle.name_delete.specs.Laws.{delete-none, delete-busy, delete-ok}
+use Rattle.lookup.specs.Search.{row-in, slot-in, slot-low}
 use borrow.Author.Needs.{needs}
 use Rattle.name_delete.proofs.delete_store.Statement.{statement}
 use Rattle.name_delete.proofs.delete_store.Tie as tie
 
--- the state at entry, with the buffers that are not lent
-abbrev whole : tie.Start → List ℕ → List ℕ → State
-whole c image hash = let a = c .args in stateOf (a .control) (a .table .now) (a .names .now) (a .committed .now) (a .staged .now) image hash
-
 -- the places that the answers read
-abbrev entry : tie.After-k → tie.Start
+abbrev entry : tie.After-enum-told → tie.Start
 entry c = c .before .before .before .before .before .before .before .before .before
 
-abbrev entry₂ : tie.After-enum-told → tie.Start
-entry₂ c = c .before .before .before .before .before .before .before .before .before
+abbrev at-find-name : tie.After-known-told → tie.After-find-name
+at-find-name c = c .before .before .before
 
-abbrev at-find-name : tie.After-k → tie.After-find-name
-at-find-name c = c .before .before
+abbrev entry₃ : tie.After-enum-told3 → tie.Start
+entry₃ c = c .before .before .before .before .before .before .before .before .before .before .before .before .before
 
 abbrev at-k : tie.After-enum-told3 → tie.After-k
 at-k c = c .before .before .before .before
 
+abbrev at-find-name₂ : tie.After-enum-told3 → tie.After-find-name
+at-find-name₂ c = c .before .before .before .before .before .before
+
+abbrev at-find-name₃ : tie.After-free-slot-arg3 → tie.After-find-name
+at-find-name₃ c = c .before .before .before .before .before .before .before .before .before
+
 abbrev at-k₂ : tie.After-free-slot-arg3 → tie.After-k
 at-k₂ c = c .before .before .before .before .before .before .before
 
+abbrev entry₅ : tie.After-slice-known6 → tie.Start
+entry₅ c =
+    c .before .before .before .before .before .before .before .before .before .before .before .before .before .before
+    .before .before .before .before .before .before .before .before .before
+
+abbrev at-free-slot : tie.After-slice-known6 → tie.After-free-slot
+at-free-slot c = c .before .before .before .before .before .before
+
 abbrev at-k₃ : tie.After-slice-known6 → tie.After-k
 at-k₃ c = c .before .before .before .before .before .before .before .before .before .before .before .before .before .before
+
+abbrev at-find-name₄ : tie.After-slice-known6 → tie.After-find-name
+at-find-name₄ c =
+    c .before .before .before .before .before .before .before .before .before .before .before .before .before .before
+    .before .before
 
 abbrev at-find-row : tie.After-slice-known6 → tie.After-find-row
 at-find-row c = c .before .before .before .before .before .before .before .before .before .before .before .before
 
 abbrev at-enum-told2 : tie.After-slice-known6 → tie.After-enum-told2
 at-enum-told2 c = c .before .before .before .before .before .before .before .before .before .before
-
-abbrev at-free-slot : tie.After-slice-known6 → tie.After-free-slot
-at-free-slot c = c .before .before .before .before .before .before
 
 find-name-requires : tie.Need-find-name-requires
 find-name-requires c κs = search needs
@@ -62,16 +70,13 @@ same-length c = search needs
 returns : tie.Need-returns
 returns c =
     λ i h _.
-    let start = entry₂ c in
-    let a = start .args in
-    delete-none (a .start) (a .len) (a .message .now) (whole start i h)
-    (sym (c .before .before .find-name .ensures) ∙ ap optionOf (c .enum-told .given .1))
+    let a = entry c .args in
+    let s = stateOf (a .control) (a .table .now) (a .names .now) (a .committed .now) (a .staged .now) i h in
+    delete-none (a .start) (a .len) (a .message .now) s (slot-in s (c .before .before .find-name .ensures) (c .enum-told .given .1))
 
 cast-t17 : tie.Need-cast-t17
 cast-t17 c =
-    let a = entry (c .before) .args in
-    let l : c .before .k .given .0 .0 < slotCount = found (holds (part (a .start) (a .len) (a .message .now)) (a .names .now) (a .control .slots)) slotCount
-    (c .before .k .given .0 .0) (sym (at-find-name (c .before) .find-name .ensures) ∙ ap optionOf (c .before .k .given .1)) .low in
+    let l : c .before .k .given .0 .0 < slotCount = slot-low (at-find-name c .find-name .ensures) (c .before .k .given .1) in
     omega arith
 
 find-row-requires : tie.Need-find-row-requires
@@ -89,18 +94,13 @@ same-length-2 c = search needs
 returns-2 : tie.Need-returns-2
 returns-2 c =
     λ i h _.
-    let start = entry (at-k c) in
-    let a = start .args in
-    delete-busy (a .start) (a .len) (a .message .now) (whole start i h) (at-k c .k .given .0 .0)
-    (sym (at-find-name (at-k c) .find-name .ensures) ∙ ap optionOf (at-k c .k .given .1)) _ (sym (c .before .before .find-row .ensures) ∙ ap optionOf (c .enum-told3 .given .1))
+    let a = entry₃ c .args in
+    let s = stateOf (a .control) (a .table .now) (a .names .now) (a .committed .now) (a .staged .now) i h in
+    delete-busy (a .start) (a .len) (a .message .now) s (at-k c .k .given .0 .0) (slot-in s (at-find-name₂ c .find-name .ensures) (at-k c .k .given .1)) _ (row-in s (c .before .before .find-row .ensures) (c .enum-told3 .given .1))
 
 free-slot-requires : tie.Need-free-slot-requires
 free-slot-requires c κs =
-    let a = entry (at-k₂ c) .args in (
-      found (holds (part (a .start) (a .len) (a .message .now)) (a .names .now) (a .control .slots)) slotCount (at-k₂ c .k .given .0 .0)
-          (sym (at-find-name (at-k₂ c) .find-name .ensures) ∙ ap optionOf (at-k₂ c .k .given .1)) .low,
-      search needs,
-    )
+    (slot-low (at-find-name₃ c .find-name .ensures) (at-k₂ c .k .given .1), search needs)
 
 same-length-3 : tie.Need-same-length-3
 same-length-3 c = search needs
@@ -114,11 +114,10 @@ same-length-5 c = search needs
 returns-3 : tie.Need-returns-3
 returns-3 c =
     λ i h _.
-    let start = entry (at-k₃ c) in
-    let a = start .args in
+    let a = entry₅ c .args in
+    let s = stateOf (a .control) (a .table .now) (a .names .now) (a .committed .now) (a .staged .now) i h in
     ap (λ (x : State). (done, x)) (at-free-slot c .free-slot .ensures (a .table .now) i h)
-    ∙ delete-ok (a .start) (a .len) (a .message .now) (whole start i h) (at-k₃ c .k .given .0 .0)
-    (sym (at-find-name (at-k₃ c) .find-name .ensures) ∙ ap optionOf (at-k₃ c .k .given .1)) (sym (at-find-row c .find-row .ensures) ∙ ap optionOf (at-enum-told2 c .enum-told2 .given .1))
+    ∙ delete-ok (a .start) (a .len) (a .message .now) s (at-k₃ c .k .given .0 .0) (slot-in s (at-find-name₄ c .find-name .ensures) (at-k₃ c .k .given .1)) (row-in s (at-find-row c .find-row .ensures) (at-enum-told2 c .enum-told2 .given .1))
 
 pub delete-store-spec : {M : Type 1} → statement M
 delete-store-spec =

@@ -1,6 +1,8 @@
 -- `stage_slot`: the slot as it is, or with its committed region and length staged.
 use Prim.Native.Nat.{ℕ}
+use mathlib.Core.Path.{sym, _∙_}
 use mathlib.Core.List.{List}
+use borrow.Author.Tests.{not-true, not-false}
 use Rattle.state.specs.State.{State, stateOf}
 use Rattle.open_steps.specs.Laws.{held-read, held-written}
 use borrow.Author.Needs.{needs}
@@ -24,12 +26,15 @@ in-else1 c = c .before .before .before .before .before
 abbrev at-copy-region : tie.After-next → tie.After-copy-region
 at-copy-region c = c .before .before .before
 
+writes-with-requires : tie.Need-writes-with-requires
+writes-with-requires c κs = search needs
+
 returns : tie.Need-returns
 returns c =
     λ t n i h.
     let start = entry c in
     let a = start .args in
-    held-read (a .k) (a .flags) (whole start t n i h) (c .if1 .taken)
+    held-read (a .k) (a .flags) (whole start t n i h) (sym (c .before .writes-with .ensures) ∙ not-true _ (c .if1 .taken))
 
 copy-region-requires : tie.Need-copy-region-requires
 copy-region-requires c κs = search needs
@@ -54,12 +59,13 @@ returns-2 c =
     λ t n i h.
     let start = entry₂ c in
     let a = start .args in
-    held-written (a .k) (a .flags) (whole start t n i h) (in-else1 c .if1 .left) _ (at-copy-region c .copy-region .ensures)
+    held-written (a .k) (a .flags) (whole start t n i h) (sym (in-else1 c .before .writes-with .ensures) ∙ not-false _ (in-else1 c .if1 .left)) _ (at-copy-region c .copy-region .ensures)
 
 pub stage-slot-spec : {M : Type 1} → statement M
 stage-slot-spec =
     tie.close
     (tie.spec
+    writes-with-requires
     returns
     copy-region-requires
     mul-next

@@ -1,6 +1,4 @@
 -- `open_held`: a session is on the blob, no row is free, or the slot is staged and the row taken.
-use Prim.Native.Nat.{ℕ}
-use mathlib.Core.List.{List}
 use mathlib.Core.Path.{_≡_, sym, _∙_, ap}
 use native.Mathlib.Omega.{arith}
 use Rattle.laws.specs.Find.{found}
@@ -11,41 +9,57 @@ use Rattle.state.specs.Answers.{optionOf}
 use mathlib.Core.List.{[]}
 use Rattle.open_steps.specs.Steps.{rowOpened}
 use Rattle.open_store.specs.Laws.{held-busy, held-no-row, held-ok}
+use Rattle.lookup.specs.Search.{row-in}
 use borrow.Author.Needs.{needs}
 use Rattle.open_store.proofs.open_held.Statement.{statement}
 use Rattle.open_store.proofs.open_held.Tie as tie
-
--- the state at entry, with the buffers that are not lent
-abbrev whole : tie.Start → List ℕ → List ℕ → List ℕ → State
-whole c names image hash = let a = c .args in stateOf (a .control) (a .table .now) names (a .committed .now) (a .staged .now) image hash
 
 -- the places that the answers read
 abbrev entry : tie.After-enum-told2 → tie.Start
 entry c = c .before .before .before .before .before .before .before
 
-abbrev entry₂ : tie.After-lowest-free → tie.Start
-entry₂ c = c .before .before .before .before .before .before .before .before
+abbrev entry₂ : tie.After-enum-told3 → tie.Start
+entry₂ c = c .before .before .before .before .before .before .before .before .before .before
 
-abbrev at-find-row : tie.After-lowest-free → tie.After-find-row
-at-find-row c = c .before .before .before
+abbrev at-find-row : tie.After-enum-told3 → tie.After-find-row
+at-find-row c = c .before .before .before .before .before
 
 abbrev at-enum-told : tie.After-enum-told3 → tie.After-enum-told
 at-enum-told c = c .before .before .before
 
-abbrev at-lowest-free : tie.After-open-row-arg → tie.After-lowest-free
-at-lowest-free c = c .before .before .before .before .before .before .before .before
-
-abbrev at-lowest-free₂ : tie.After-slice-known4 → tie.After-lowest-free
-at-lowest-free₂ c = c .before .before .before .before .before .before .before .before .before .before .before
-
-abbrev at-r : tie.After-stage-slot → tie.After-r
-at-r c = c .before .before .before
+abbrev entry₃ : tie.After-open-row-arg → tie.Start
+entry₃ c =
+    c .before .before .before .before .before .before .before .before .before .before .before .before .before .before
+    .before .before
 
 abbrev at-stage-slot : tie.After-open-row-arg → tie.After-stage-slot
 at-stage-slot c = c .before .before .before
 
+abbrev at-r : tie.After-open-row-arg → tie.After-r
+at-r c = c .before .before .before .before .before .before
+
+abbrev at-lowest-free : tie.After-open-row-arg → tie.After-lowest-free
+at-lowest-free c = c .before .before .before .before .before .before .before .before
+
+abbrev entry₄ : tie.After-slice-known4 → tie.Start
+entry₄ c =
+    c .before .before .before .before .before .before .before .before .before .before .before .before .before .before
+    .before .before .before .before .before
+
 abbrev at-stage-slot₂ : tie.After-slice-known4 → tie.After-stage-slot
 at-stage-slot₂ c = c .before .before .before .before .before .before
+
+abbrev at-r₂ : tie.After-slice-known4 → tie.After-r
+at-r₂ c = c .before .before .before .before .before .before .before .before .before
+
+abbrev at-find-row₂ : tie.After-slice-known4 → tie.After-find-row
+at-find-row₂ c = c .before .before .before .before .before .before .before .before .before .before .before .before .before .before
+
+abbrev at-enum-told₂ : tie.After-slice-known4 → tie.After-enum-told
+at-enum-told₂ c = c .before .before .before .before .before .before .before .before .before .before .before .before
+
+abbrev at-lowest-free₂ : tie.After-slice-known4 → tie.After-lowest-free
+at-lowest-free₂ c = c .before .before .before .before .before .before .before .before .before .before .before
 
 cast-open-row : tie.Need-cast-open-row
 cast-open-row c = search needs
@@ -65,10 +79,9 @@ same-length c = search needs
 returns : tie.Need-returns
 returns c =
     λ n i h _.
-    let start = entry c in
-    let a = start .args in
-    held-busy (a .k) (a .flags) (a .clock) (whole start n i h) _
-    (sym (c .before .before .find-row .ensures) ∙ ap optionOf (c .enum-told2 .given .1))
+    let a = entry c .args in
+    let s = stateOf (a .control) (a .table .now) n (a .committed .now) (a .staged .now) i h in
+    held-busy (a .k) (a .flags) (a .clock) s _ (row-in s (c .before .before .find-row .ensures) (c .enum-told2 .given .1))
 
 lowest-free-requires : tie.Need-lowest-free-requires
 lowest-free-requires c κs = search needs
@@ -85,11 +98,9 @@ same-length-2 c = search needs
 returns-2 : tie.Need-returns-2
 returns-2 c =
     λ n i h _.
-    let start = entry₂ (c .before .before) in
-    let a = start .args in
-    held-no-row (a .k) (a .flags) (a .clock) (whole start n i h)
-    (sym (at-find-row (c .before .before) .find-row .ensures) ∙ ap optionOf (at-enum-told c .enum-told .given .1)) (sym (c .before .before .lowest-free .ensures) ∙ ap optionOf
-    (c .enum-told3 .given .1))
+    let a = entry₂ c .args in
+    let s = stateOf (a .control) (a .table .now) n (a .committed .now) (a .staged .now) i h in
+    held-no-row (a .k) (a .flags) (a .clock) s (row-in s (at-find-row c .find-row .ensures) (at-enum-told c .enum-told .given .1)) (sym (c .before .before .lowest-free .ensures) ∙ ap optionOf (c .enum-told3 .given .1))
 
 stage-slot-requires : tie.Need-stage-slot-requires
 stage-slot-requires c κs = search needs
@@ -99,12 +110,9 @@ cast-open-row-2 c = search needs
 
 open-row-requires : tie.Need-open-row-requires
 open-row-requires c κs =
-    let a = entry₂ (at-lowest-free c) .args in
-    let e : at-stage-slot c .stage-slot .result .next ≡ a .control .next = ap (λ (s : State). s .next) (at-stage-slot c .stage-slot .ensures [] [] [] []) in (
-      (found (clear (a .control .rows)) slotCount (at-r (at-stage-slot c) .r .given .0 .0) (sym (at-lowest-free c .lowest-free .ensures) ∙ ap optionOf
-          (at-r (at-stage-slot c) .r .given .1)) .low),
-      (omega arith, (omega (arith, e, entry₂ (at-lowest-free c) .pre .1 .0), entry₂ (at-lowest-free c) .pre .1 .1 .0)),
-    )
+    let a = entry₃ c .args in
+    let e : (at-stage-slot c) .stage-slot .result .next ≡ a .control .next = ap (λ (s : State). s .next) (at-stage-slot c .stage-slot .ensures [] [] [] []) in
+    ((found (clear (a .control .rows)) slotCount (at-r c .r .given .0 .0) (sym (at-lowest-free c .lowest-free .ensures) ∙ ap optionOf (at-r c .r .given .1)) .low), (omega arith, (omega (arith, e, entry₃ c .pre .1 .0), entry₃ c .pre .1 .1 .0)))
 
 same-length-3 : tie.Need-same-length-3
 same-length-3 c = search needs
@@ -114,15 +122,12 @@ same-length-4 c = search needs
 
 returns-3 : tie.Need-returns-3
 returns-3 c =
-    let stage-slot = at-stage-slot₂ c in
     λ n i h x.
-    let start = entry₂ (at-lowest-free₂ c) in
-    let a = start .args in
-    c .before .before .open-row .ensures n (a .committed .now) (stage-slot .stage-slot .last .1 .1 .1 .1 .0) i h x
-    ∙ ap (rowOpened (at-r stage-slot .r .given .0 .0) (a .k) (a .flags) 1 (a .clock)) (stage-slot .stage-slot .ensures (a .table .now) n i h)
-    ∙ held-ok (a .k) (a .flags) (a .clock) (whole start n i h)
-    (sym (at-find-row (at-lowest-free₂ c) .find-row .ensures) ∙ ap optionOf (at-lowest-free₂ c .before .enum-told .given .1)) (at-r stage-slot .r .given .0 .0)
-    (sym (at-lowest-free₂ c .lowest-free .ensures) ∙ ap optionOf (at-r stage-slot .r .given .1))
+    let a = entry₄ c .args in
+    let s = stateOf (a .control) (a .table .now) n (a .committed .now) (a .staged .now) i h in
+    c .before .before .open-row .ensures n (a .committed .now) (at-stage-slot₂ c .stage-slot .last .1 .1 .1 .1 .0) i h x
+    ∙ ap (rowOpened (at-r₂ c .r .given .0 .0) (a .k) (a .flags) 1 (a .clock)) (at-stage-slot₂ c .stage-slot .ensures (a .table .now) n i h)
+    ∙ held-ok (a .k) (a .flags) (a .clock) s (row-in s (at-find-row₂ c .find-row .ensures) (at-enum-told₂ c .enum-told .given .1)) (at-r₂ c .r .given .0 .0) (sym (at-lowest-free₂ c .lowest-free .ensures) ∙ ap optionOf (at-r₂ c .r .given .1))
 
 pub open-held-spec : {M : Type 1} → statement M
 open-held-spec =

@@ -1,47 +1,13 @@
 -- `stat`: of a store session, of the flash session, of none.
 use mathlib.Core.List.{List}
 use Prim.Native.Nat.{ℕ}
-use Rattle.state.specs.State.{State, stateOf}
+use Rattle.state.specs.State.{stateOf}
 use Rattle.rules.specs.Command.{stat}
-use Rattle.rules.specs.Session.{by}
-use Rattle.memory_slots.specs.declared.Wanted.the-variants.{Id}
-use Rattle.memory_slots.specs.Lookup.{by-id}
-use Rattle.session_by_id.proofs.Laws.{found-low, row-is, of-row, of-none}
+use Rattle.session_by_id.proofs.Laws.{row-is, of-row, of-none}
+use Rattle.lookup.specs.Search.{row-low}
 use borrow.Author.Needs.{needs}
 use Rattle.session_by_id.proofs.stat.Statement.{statement}
 use Rattle.session_by_id.proofs.stat.Tie as tie
-
--- the state at entry, with the buffers that are not lent
-abbrev whole : tie.Start → List ℕ → List ℕ → List ℕ → List ℕ → List ℕ → State
-whole c names committed staged image hash = let a = c .args in stateOf (a .control) (a .table .now) names committed staged image hash
-
--- the places that the answers read
-abbrev entry : tie.After-found → tie.Start
-entry c = c .before .before .before .before .before
-
-abbrev entry₂ : tie.After-enum-told → tie.Start
-entry₂ c = c .before .before .before .before .before
-
-abbrev at-find-row : tie.After-found → tie.After-find-row
-at-find-row c = c .before .before
-
-abbrev at-found : tie.After-stat-arg → tie.After-found
-at-found c = c .before .before .before .before .before .before
-
-abbrev at-found₂ : tie.After-slice-known2 → tie.After-found
-at-found₂ c = c .before .before .before .before .before .before .before .before .before
-
-abbrev at-found₃ : tie.After-stat-arg2 → tie.After-found
-at-found₃ c = c .before .before .before .before .before .before
-
-abbrev at-found₄ : tie.After-slice-known3 → tie.After-found
-at-found₄ c = c .before .before .before .before .before .before .before .before .before
-
-abbrev at-read-row : tie.After-stat-arg → tie.After-read-row
-at-read-row c = c .before .before .before
-
-abbrev at-read-row₂ : tie.After-stat-arg2 → tie.After-read-row
-at-read-row₂ c = c .before .before .before
 
 find-row-requires : tie.Need-find-row-requires
 find-row-requires c κs = search needs
@@ -51,47 +17,29 @@ enum-known-found c = search needs
 
 read-row-requires : tie.Need-read-row-requires
 read-row-requires c κs =
-    let start = entry (c .before .before) in
-    let a = start .args in (
-      start .pre,
-      found-low (Id (a .id)) (a .table .now) (a .control .rows) (at-find-row (c .before .before) .find-row .result)
-          (c .before .before .found .given .0 .0) (at-find-row (c .before .before) .find-row .ensures) (c .before .before .found .given .1),
-    )
+    let a = c .before .before .before .before .before .before .before .args in
+    (c .before .before .before .before .before .before .before .pre, row-low (c .before .before .before .before .find-row .ensures) (c .before .before .found .given .1))
 
 cast-if1 : tie.Need-cast-if1
 cast-if1 c = search needs
 
 stat-requires : tie.Need-stat-requires
 stat-requires c κs =
-    let found = at-found c in
-    let start = entry found in
-    let a = start .args in (
-      row-is (Id (a .id)) (a .table .now) (a .control .rows) (at-find-row found .find-row .result) (found .found .given .0 .0) (at-find-row found .find-row .ensures)
-          (found .found .given .1) (at-read-row c .read-row .result) (start .pre) (at-read-row c .read-row .ensures),
-      c .before .if1 .taken,
-    )
+    let a = c .before .before .before .before .before .before .before .before .before .before .before .args in
+    (row-is (c .before .before .before .before .before .before .before .before .find-row .ensures) (c .before .before .before .before .before .before .found .given .1) (c .before .before .before .before .before .before .before .before .before .before .before .pre) (c .before .before .before .read-row .ensures), c .before .if1 .taken)
 
 same-length : tie.Need-same-length
 same-length c = search needs
 
 returns : tie.Need-returns
 returns c =
-    let found = at-found₂ c in
-    let start = entry found in
-    let a = start .args in
-    λ (n m g im h x : List ℕ). of-row (whole start n m g im h) (by (a .id)) (Id (a .id)) (by-id (a .id) (whole start n m g im h))
-    (at-find-row found .find-row .result) (at-find-row found .find-row .ensures) (found .found .given .0 .0) (a .clock) stat _ (found .found .given .1)
-    (c .before .before .stat .ensures n m g im h x)
+    let a = c .before .before .before .before .before .before .before .before .before .before .before .before .before .before .args in
+    λ (n m g im h x : List ℕ). of-row (stateOf (a .control) (a .table .now) n m g im h) (a .clock) stat (c .before .before .before .before .before .before .before .before .before .before .before .find-row .ensures) (c .before .before .before .before .before .before .before .before .before .found .given .1) (c .before .before .stat .ensures n m g im h x)
 
 stat-requires-2 : tie.Need-stat-requires-2
 stat-requires-2 c κs =
-    let found = at-found₃ c in
-    let start = entry found in
-    let a = start .args in (
-      row-is (Id (a .id)) (a .table .now) (a .control .rows) (at-find-row found .find-row .result) (found .found .given .0 .0) (at-find-row found .find-row .ensures)
-          (found .found .given .1) (at-read-row₂ c .read-row .result) (start .pre) (at-read-row₂ c .read-row .ensures),
-      c .before .if1 .left,
-    )
+    let a = c .before .before .before .before .before .before .before .before .before .before .before .args in
+    (row-is (c .before .before .before .before .before .before .before .before .find-row .ensures) (c .before .before .before .before .before .before .found .given .1) (c .before .before .before .before .before .before .before .before .before .before .before .pre) (c .before .before .before .read-row .ensures), c .before .if1 .left)
 
 enum-told : tie.Need-enum-told
 enum-told c = search needs
@@ -101,22 +49,16 @@ same-length-2 c = search needs
 
 returns-2 : tie.Need-returns-2
 returns-2 c =
-    let found = at-found₄ c in
-    let start = entry found in
-    let a = start .args in
-    λ (n m g im h x : List ℕ). of-row (whole start n m g im h) (by (a .id)) (Id (a .id)) (by-id (a .id) (whole start n m g im h))
-    (at-find-row found .find-row .result) (at-find-row found .find-row .ensures) (found .found .given .0 .0) (a .clock) stat _ (found .found .given .1)
-    (c .before .before .stat2 .ensures n m g im h x)
+    let a = c .before .before .before .before .before .before .before .before .before .before .before .before .before .before .args in
+    λ (n m g im h x : List ℕ). of-row (stateOf (a .control) (a .table .now) n m g im h) (a .clock) stat (c .before .before .before .before .before .before .before .before .before .before .before .find-row .ensures) (c .before .before .before .before .before .before .before .before .before .found .given .1) (c .before .before .stat2 .ensures n m g im h x)
 
 same-length-3 : tie.Need-same-length-3
 same-length-3 c = search needs
 
 returns-3 : tie.Need-returns-3
 returns-3 c =
-    let start = entry₂ c in
-    let a = start .args in
-    λ (n m g im h x : List ℕ). of-none (whole start n m g im h) (by (a .id)) (Id (a .id)) (by-id (a .id) (whole start n m g im h))
-    (c .before .before .find-row .result) (c .before .before .find-row .ensures) (a .clock) stat (c .enum-told .given .1)
+    let a = c .before .before .before .before .before .args in
+    λ (n m g im h x : List ℕ). of-none (stateOf (a .control) (a .table .now) n m g im h) (a .clock) stat (c .before .before .find-row .ensures) (c .enum-told .given .1)
 
 pub stat-spec : {M : Type 1} → statement M
 stat-spec =

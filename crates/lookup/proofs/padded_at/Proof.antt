@@ -2,10 +2,10 @@
 use mathlib.Core.Path.{sym, _∙_}
 use Rattle.protocol.specs.Numbers.{nameSize}
 use Rattle.laws.specs.Ranges.{part, getD-part}
-use Rattle.places.specs.Laws.{padded-at, padded-zero}
+use Rattle.lookup.specs.Laws.{padded-at, padded-zero}
 use borrow.Author.Needs.{needs}
-use Rattle.places.proofs.padded_at.Statement.{statement}
-use Rattle.places.proofs.padded_at.Tie as tie
+use Rattle.lookup.proofs.padded_at.Statement.{statement}
+use Rattle.lookup.proofs.padded_at.Tie as tie
 
 add-result : tie.Need-add-result
 add-result c = search needs

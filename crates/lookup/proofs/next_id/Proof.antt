@@ -7,8 +7,8 @@ use Prim.Native.Nat.{suc}
 use lib.Dec.{eqb}
 use borrow.Author.Tests.{eq-eqb, ne-eqb}
 use borrow.Author.Needs.{needs}
-use Rattle.places.proofs.next_id.Statement.{statement}
-use Rattle.places.proofs.next_id.Tie as tie
+use Rattle.lookup.proofs.next_id.Statement.{statement}
+use Rattle.lookup.proofs.next_id.Tie as tie
 
 add-next : tie.Need-add-next
 add-next c = search needs

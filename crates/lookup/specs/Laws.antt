@@ -14,12 +14,11 @@ use lib.Seq.{getD-take, getD-append-add}
 use Rattle.laws.specs.All.{all}
 use Rattle.laws.specs.Ranges.{part, length-part}
 use Rattle.laws.specs.Bytes.{same, padded}
-use Rattle.laws.specs.Find.{first}
-use Rattle.protocol.specs.Numbers.{rowCount}
 use Rattle.state.specs.State.{State, Rows, inSessions}
-use Rattle.rules.specs.Session.{by, meant}
+use Rattle.state.specs.declared.row.Wanted.the-variants.{Id}
+use Rattle.rules.specs.Session.{rowFound}
 use Rattle.rules.specs.Open.{after, unless, freshFrom}
-use Rattle.places.specs.Search.{isNone}
+use Rattle.lookup.specs.Search.{isNone}
 
 -- ---- equal lists, byte by byte
 -- two lists agree at i
@@ -51,17 +50,17 @@ padded-zero n i start len m fits l h =
 
 -- ---- the identifier: the search stops at one that no session has, goes on at another, and takes the one behind them
 module _ (s : State) where
-  pub fresh-stop : (n m id : ℕ) → n ≡ m + 1 → isNone (first (meant (by id) s) rowCount) ≡ true → freshFrom n id s ≡ id
+  pub fresh-stop : (n m id : ℕ) → n ≡ m + 1 → isNone (rowFound (Id id) s) ≡ true → freshFrom n id s ≡ id
   unfolding freshFrom
-  fresh-stop n m id e h = rw (e, add-one) (go (first (meant (by id) s) rowCount) h)
+  fresh-stop n m id e h = rw (e, add-one) (go (rowFound (Id id) s) h)
     where
       go : (o : Option ℕ) → isNone o ≡ true → unless o id (freshFrom m (after id) s) ≡ id
       go none h = refl
       go (some r) h = absurd (let z : _≡_ {A = ℕ} 0 1 = cc in omega arith)
 
-  pub fresh-step : (n m id : ℕ) → n ≡ m + 1 → isNone (first (meant (by id) s) rowCount) ≡ false → freshFrom n id s ≡ freshFrom m (after id) s
+  pub fresh-step : (n m id : ℕ) → n ≡ m + 1 → isNone (rowFound (Id id) s) ≡ false → freshFrom n id s ≡ freshFrom m (after id) s
   unfolding freshFrom
-  fresh-step n m id e h = rw (e, add-one) (go (first (meant (by id) s) rowCount) h)
+  fresh-step n m id e h = rw (e, add-one) (go (rowFound (Id id) s) h)
     where
       go : (o : Option ℕ) → isNone o ≡ false → unless o id (freshFrom m (after id) s) ≡ freshFrom m (after id) s
       go none h = absurd (let z : _≡_ {A = ℕ} 0 1 = cc in omega arith)
@@ -73,6 +72,6 @@ module _ (s : State) where
 
 -- the identifier hangs on the session table and its mask alone
 pub fresh-same : (n id : ℕ) (x : Rows) (s s′ : State) → freshFrom n id (inSessions .put x s) ≡ freshFrom n id (inSessions .put x s′)
-unfolding freshFrom
+unfolding freshFrom rowFound
 fresh-same zero id x s s′ = refl
-fresh-same (suc n) id x s s′ = ap (unless (first (meant (by id) (inSessions .put x s)) rowCount) id) (fresh-same n (after id) x s s′)
+fresh-same (suc n) id x s s′ = ap (unless (rowFound (Id id) (inSessions .put x s)) id) (fresh-same n (after id) x s s′)
