@@ -147,7 +147,7 @@ def main():
             "stdout": ("".join(responses()) + "".join(line(decode(m)) for m in all_messages)).encode()}
     assert crc(b"123456789") == 0x29B1 and crc(b"") == 0xFFFF
     assert len(made["stdin"]) <= 65536, "the program reads its input into one buffer"
-    written.write_or_check("vectors", made)
+    written.write_or_check("request_vectors", made)
     print(f"{len(all_messages)} messages, {len(made['stdin'])} bytes")
 
 

@@ -10,7 +10,7 @@ use lib.ListN.{length, getD, length-append, length-take}
 use Rattle.laws.specs.Bytes.{bytesOf, text}
 use Rattle.laws.specs.Ranges.{part}
 use Rattle.crc.specs.Crc.{crc}
-use Rattle.protocol.specs.Numbers.{readMost, stateCommitted, notFound, invalid, outOfRange, slotCount, nameSize, answerSize, slotSize, imageSize, hashSize, writeOnly, running}
+use Rattle.protocol.specs.Numbers.{readMost, stateCommitted, notFound, outOfRange, slotCount, nameSize, answerSize, slotSize, imageSize, hashSize, writeOnly, running}
 use Rattle.protocol.specs.Names.{base, flashFolder, flashWord, flashName, kindOf, flashNumber}
 use Rattle.protocol.specs.Decode.{decoded, numberOf}
 use Rattle.protocol.specs.Frame.{Reply, refused, done, reply, framed, statFields}
@@ -22,7 +22,7 @@ use Rattle.protocol.specs.declared.Request.{Request}
 use Rattle.protocol.specs.declared.Request.the-variants.{Count, Enumerate, Open, Read, Write, Commit, Close, Delete, Stat, SessionStat, WriteMeta, Refused}
 use Rattle.state.specs.declared.Phase.{Phase}
 use Rattle.state.specs.State.{State, Row, Slot, FlashBody, Place, slot, flash, Body, placeOf, inRow, inBody}
-use Rattle.state.specs.Words.{blobOf, wordOf, statusOf, writes, blob, storeFlags, flashFlags, writesWith}
+use Rattle.state.specs.Words.{blobOf, wordOf, statusOf, writes, blob, freeSlot}
 use Rattle.state.specs.Soundness.{slotAt, isSound}
 use Rattle.rules.specs.Store.{readStore, stored, writeStore, commitWriting, commitStore, onStore, seenLength}
 use Rattle.rules.specs.Command.{Command, read, write, commit, stat, close, writeMeta, endJob, commitFits, Out, stateBits}
@@ -31,12 +31,15 @@ use Rattle.state.specs.declared.row.Wanted.{Wanted}
 use Rattle.state.specs.declared.row.Wanted.the-variants.{Id, OnBlob, OnFlash}
 use Rattle.rules.specs.Session.{onPart, onFound, onSession, statPart, statRow, rowFound}
 use Rattle.rules.specs.Sweep.{swept}
-use Rattle.rules.specs.Open.{slotNamed, freeRowIn, freeSlotIn, opened, openNew, openFree, openHeld, openNamed, openStore, flashListed, openFlashFree, openFlashQuiet, openFlashListed, openFlash, openBlob, deleteQuiet, deleteNamed}
-use Rattle.rules.specs.Open.{deleteBlob, statSlot, statNamed, statKind, statBlob}
+use Rattle.rules.specs.Open.{openStore, openFlash, openBlob}
 use Rattle.rules.specs.Listing.{only, listedFlash, committedNames, flashNames, listed, enumerated, count}
 use Rattle.rules.specs.Respond.{Effect, effectOf, unsound, answered, respond}
 use Rattle.guarantees.specs.Naming.{name-bound}
-use Rattle.rules.specs.Laws.{cond-has, placed-has}
+use Rattle.rules.specs.Laws.{cond-has, placed-has, some-has, none-has, whether-has}
+use Rattle.rules.specs.Lookup.{slotNamed}
+use Rattle.rules.specs.Opening.{opened, flashListed, heldSlot, newSlot, openedFlash}
+use Rattle.rules.specs.Named.{deleteBlob, statKind, statBlob, deleteStore, statName}
+use Rattle.rules.specs.OpenLaws.{open-store-has, open-flash-has}
 
 -- the fields of a reply are at most as long as Read's
 abbrev Short : Reply → Type 0
@@ -161,46 +164,17 @@ short-opened : (p : Place) (r b flags clean t : ℕ) (body : Body p) (s : State)
 unfolding opened
 short-opened p r b flags clean t body s = rw bytes-long (omega arith)
 
-short-new : (o j : Option ℕ) (n : List ℕ) (flags t : ℕ) (s : State) → Short (openNew o j n flags t s .0)
-short-new none j n flags t s = tt
-short-new (some r) none n flags t s = tt
-short-new (some r) (some k) n flags t s = short-opened (slot k) r k flags 0 t _ s
-
-short-free : (o : Option ℕ) (k flags t : ℕ) (s : State) → Short (openFree o k flags t s .0)
-short-free none k flags t s = tt
-short-free (some r) k flags t s = short-opened (slot k) r k flags 1 t _ s
-
-short-held : (o : Option ℕ) (k flags t : ℕ) (s : State) → Short (openHeld o k flags t s .0)
-short-held none k flags t s = short-free (freeRowIn s) k flags t s
-short-held (some q) k flags t s = tt
-
 -- an answer and a state whose reply is short
 abbrev Brief : Reply × State → Type 0
 Brief o = Short (o .0)
 
-short-named : (o : Option ℕ) (n : List ℕ) (flags t : ℕ) (s : State) → Short (openNamed o n flags t s .0)
-short-named none n flags t s = cond-has Brief (writesWith flags) (openNew (freeRowIn s) (freeSlotIn s) n flags t s) (refused notFound, s) (short-new (freeRowIn s) (freeSlotIn s) n flags t s) tt
-short-named (some k) n flags t s = short-held (rowFound (OnBlob k) s) k flags t s
-
 short-open-store : (n : List ℕ) (flags t : ℕ) (s : State) → Short (openStore n flags t s .0)
-unfolding openStore
-short-open-store n flags t s = cond-has Brief (storeFlags flags) (openNamed (slotNamed n s) n flags t s) (refused invalid, s) (short-named (slotNamed n s) n flags t s) tt
-
-short-flash-free : (o : Option ℕ) (k : FlashKind) (t : ℕ) (s : State) → Short (openFlashFree o k t s .0)
-short-flash-free none k t s = tt
-short-flash-free (some r) k t s = short-opened flash r (flashNumber k) writeOnly 0 t _ s
-
-short-flash-quiet : (o : Option ℕ) (k : FlashKind) (t : ℕ) (s : State) → Short (openFlashQuiet o k t s .0)
-short-flash-quiet none k t s = short-flash-free (freeRowIn s) k t s
-short-flash-quiet (some q) k t s = tt
-
-short-flash-listed : (y : Bool) (k : FlashKind) (t : ℕ) (s : State) → Short (openFlashListed y k t s .0)
-short-flash-listed true k t s = short-flash-quiet (rowFound OnFlash s) k t s
-short-flash-listed false k t s = tt
+short-open-store n flags t s =
+    open-store-has Brief s (λ _ _. tt) n flags t (λ (r k : ℕ) _ _ _ _. short-opened (slot k) r k flags 1 t (heldSlot flags (slotAt k s)) s)
+    (λ (r k : ℕ) _ _ _ _ _. short-opened (slot k) r k flags 0 t (newSlot n) s)
 
 short-open-flash : (k : FlashKind) (flags t : ℕ) (s : State) → Short (openFlash k flags t s .0)
-unfolding openFlash
-short-open-flash k flags t s = cond-has Brief (flashFlags flags) (openFlashListed (flashListed k (s .flashGroup .phase)) k t s) (refused invalid, s) (short-flash-listed (flashListed k (s .flashGroup .phase)) k t s) tt
+short-open-flash k flags t s = open-flash-has Brief s (λ _ _. tt) k flags t (λ (r : ℕ) _ _ _ _. short-opened flash r (flashNumber k) writeOnly 0 t (openedFlash k (s .flashGroup)) s)
 
 short-open : (b : Blob) (flags t : ℕ) (m : List ℕ) (s : State) → Short (openBlob b flags t m s .0)
 unfolding openBlob
@@ -210,16 +184,9 @@ short-open Base flags t m s = tt
 short-open Unknown flags t m s = tt
 
 short-delete : (b : Blob) (m : List ℕ) (s : State) → Short (deleteBlob b m s .0)
-unfolding deleteBlob
-short-delete (Store at len) m s = named (slotNamed (part at len m) s)
-  where
-    quiet : (o : Option ℕ) (k : ℕ) → Short (deleteQuiet o k s .0)
-    quiet none k = tt
-    quiet (some q) k = tt
-
-    named : (o : Option ℕ) → Short (deleteNamed o s .0)
-    named none = tt
-    named (some k) = quiet (rowFound (OnBlob k) s) k
+unfolding deleteBlob deleteStore
+short-delete (Store at len) m s =
+    some-has Brief (slotNamed (part at len m) s) _ _ tt (λ (k : ℕ) _. none-has Brief (rowFound (OnBlob k) s) _ (done, inBody (slot k) .put freeSlot s) tt (λ _. tt))
 short-delete (Flash k) m s = tt
 short-delete Base m s = tt
 short-delete Unknown m s = tt
@@ -233,21 +200,13 @@ unfolding statRow
 short-stat-row r s = short-stat-part (placeOf (blob r s)) (inRow r .get s) (inBody (placeOf (blob r s)) .get s)
 
 short-stat : (b : Blob) (m : List ℕ) (s : State) → Short (statBlob b m s)
-unfolding statBlob
-short-stat (Store at len) m s = named (slotNamed (part at len m) s)
-  where
-    there : (o : Option ℕ) (k : ℕ) → Short (statSlot o k s)
-    there none k = stat-short stateCommitted (slotAt k s .committedLen)
-    there (some r) k = short-stat-row r s
-
-    named : (o : Option ℕ) → Short (statNamed o s)
-    named none = tt
-    named (some k) = there (rowFound (OnBlob k) s) k
-short-stat (Flash k) m s = cond-has Short (flashListed k (s .flashGroup .phase)) (statKind (rowFound (OnBlob (flashNumber k)) s) k s) (refused notFound) (there (rowFound (OnBlob (flashNumber k)) s)) tt
-  where
-    there : (o : Option ℕ) → Short (statKind o k s)
-    there none = stat-short 0 (flashLength k (s .flashGroup))
-    there (some r) = short-stat-row r s
+unfolding statBlob statName statKind
+short-stat (Store at len) m s =
+    some-has Short (slotNamed (part at len m) s) (refused notFound) _ tt
+    (λ (k : ℕ) _. whether-has Short (rowFound (OnBlob k) s) (λ (r : ℕ). reply (statRow r s)) _ (λ (r : ℕ) _. short-stat-row r s) (λ _. stat-short stateCommitted (slotAt k s .committedLen)))
+short-stat (Flash k) m s =
+    cond-has Short (flashListed k (s .flashGroup .phase)) _ (refused notFound)
+    (whether-has Short (rowFound (OnBlob (flashNumber k)) s) (λ (r : ℕ). reply (statRow r s)) _ (λ (r : ℕ) _. short-stat-row r s) (λ _. stat-short 0 (flashLength k (s .flashGroup)))) tt
 short-stat Base m s = stat-short 0 0
 short-stat Unknown m s = tt
 

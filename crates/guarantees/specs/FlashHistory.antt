@@ -29,12 +29,14 @@ use Rattle.rules.specs.Flash.{verifyJob, updateJob, commitKind, commitFlash, cl
 use Rattle.state.specs.declared.row.Wanted.the-variants.{OnFlash}
 use Rattle.rules.specs.Session.{onSession, rowFound}
 use Rattle.rules.specs.Sweep.{swept}
-use Rattle.rules.specs.Open.{freeRowIn, freshFrom, opened, openFlash, openBlob, flashListed, openedFlash}
+use Rattle.rules.specs.Open.{openFlash, openBlob}
 use Rattle.rules.specs.Respond.{Effect, answered}
 use Rattle.rules.specs.Laws.{respond-is, job-is}
 use Rattle.rules.specs.Messages.{askOpen, askCommit, askClose, commit-decoded, close-decoded}
 use Rattle.guarantees.specs.Merging.{Event, message, jobEnded}
 use Rattle.guarantees.specs.FlashPromise.{next, run, jobState, startsUpdate, next-sound, run-sound}
+use Rattle.rules.specs.Lookup.{freeRowIn, freshFrom}
+use Rattle.rules.specs.Opening.{opened, flashListed, openedFlash}
 
 -- ---- the events
 -- open the image

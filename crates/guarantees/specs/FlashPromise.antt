@@ -15,8 +15,8 @@ use lib.Seq.{getD-set-other, getD-set-same}
 use Rattle.laws.specs.All.{and-true, Or, this, that}
 use Rattle.laws.specs.Bits.{bit, bit-zero}
 use Rattle.laws.specs.Ranges.{part}
-use Rattle.protocol.specs.Numbers.{rowWords, untried, openCommand, rowCount, slotCount, success, statusUnit, notFound, invalid, noRoom, busy, running, succeeded, imageSize, hashSize, imageBlob, hashBlob, verifyBlob, updateBlob, readOnly}
-use Rattle.protocol.specs.Numbers.{cleanupBlob, readWrite, writeOnly, failed}
+use Rattle.protocol.specs.Numbers.{rowWords, untried, openCommand, rowCount, slotCount, success, statusUnit, notFound, busy, running, succeeded, imageSize, hashSize, imageBlob, hashBlob, verifyBlob, updateBlob, readOnly, cleanupBlob}
+use Rattle.protocol.specs.Numbers.{readWrite, writeOnly, failed}
 use Rattle.protocol.specs.Names.{kindOf, flashNumber, noKind}
 use Rattle.protocol.specs.Decode.{decoded, numberOf}
 use Rattle.protocol.specs.Frame.{Reply, refused, done, reply, framed}
@@ -29,7 +29,7 @@ use Rattle.protocol.specs.declared.Request.the-variants.{Count, Enumerate, Open
 use Rattle.state.specs.declared.Phase.the-variants.{Uploading, Verified}
 use Rattle.state.specs.State.{State, Row, Slot, FlashBody, Place, slot, flash, Body, placeOf, inRow, inBody, cell}
 use Rattle.state.specs.Parts.{cell-row-other, row-put, row-view-fits}
-use Rattle.state.specs.Words.{blobOf, wordOf, stampOf, flagsIn, statusIn, statusOf, cleanOf, wordWith, stamped, withStatus, emptyFlash, blob, inUse, Live, fresh, status-with, freeSlot, storeFlags, flashFlags, writesWith, store-flags}
+use Rattle.state.specs.Words.{blobOf, wordOf, stampOf, flagsIn, statusIn, statusOf, cleanOf, wordWith, stamped, withStatus, emptyFlash, blob, inUse, Live, fresh, status-with, freeSlot, storeFlags, flashFlags, store-flags}
 use Rattle.state.specs.Soundness.{isSound, slotAt}
 use Rattle.state.specs.Facts.{FlashSession, PhaseOk, Session, Sound}
 use Rattle.state.specs.Fresh.{fresh-sound}
@@ -40,14 +40,17 @@ use Rattle.state.specs.declared.row.Wanted.{Wanted}
 use Rattle.state.specs.declared.row.Wanted.the-variants.{Id, OnBlob, OnFlash}
 use Rattle.rules.specs.Session.{onPart, onPlace, onRow, onFound, onSession, rowFound}
 use Rattle.rules.specs.Sweep.{stale, sweepRow, sweepRows, noted, due, swept}
-use Rattle.rules.specs.Open.{slotNamed, freeRowIn, freeSlotIn, freshId, newRow, opened, newSlot, heldSlot, openNew, openFree, openHeld, openNamed, openStore, flashListed, openedFlash, openFlashFree, openFlashQuiet, openFlashListed}
-use Rattle.rules.specs.Open.{openFlash, openBlob, deleteQuiet, deleteNamed, deleteBlob}
+use Rattle.rules.specs.Open.{openStore, openFlash, openBlob}
 use Rattle.rules.specs.Respond.{Effect, answered, respond}
-use Rattle.rules.specs.Laws.{respond-is, job-is, cond-has, placed-has}
+use Rattle.rules.specs.Laws.{respond-is, job-is, cond-has, placed-has, some-has, none-has}
 use Rattle.rules.specs.Change.{Proper, row-new, row-old, Was, was}
 use Rattle.guarantees.specs.Merging.{Event, message, jobEnded, effectOn, proper-row}
 use Rattle.guarantees.specs.Keep.{swept-sound, sweep-rows-sound, respond-sound, job-sound}
 use Rattle.rules.specs.Searches.{free-row, no-flash-row, found-live, on-row, row-on}
+use Rattle.rules.specs.Lookup.{slotNamed, freeRowIn, freshId}
+use Rattle.rules.specs.Opening.{newRow, opened, newSlot, heldSlot, flashListed, openedFlash}
+use Rattle.rules.specs.Named.{deleteBlob, deleteStore}
+use Rattle.rules.specs.OpenLaws.{open-store-has, open-flash-has}
 
 -- ---- histories
 -- the state after an event, and after a history
@@ -493,8 +496,10 @@ unfolding openedFlash
 image-phase b = refl
 
 opening-store : (n : List ℕ) (flags t : ℕ) (x : State) → Sound x → Opening x (openStore n flags t x .1)
-unfolding openStore
-opening-store n flags t x g = go (storeFlags flags) refl
+opening-store n flags t x g =
+    open-store-has (λ (y : Reply × State). Opening x (y .1)) x (λ _ _. opening-same x) n flags t
+    (λ (r k : ℕ) f _ _ i. opening-slot x g r (free-row x r i) k flags 1 t (low f) (omega arith) k (heldSlot flags (slotAt k x)))
+    (λ (r k : ℕ) f _ _ i _. opening-slot x g r (free-row x r i) k flags 0 t (low f) (omega arith) k (newSlot n))
   where
     low : storeFlags flags ≡ true → flags < statusUnit
     low h = at (store-flags flags h)
@@ -502,31 +507,6 @@ opening-store n flags t x g = go (storeFlags flags) refl
         at : Or (flags ≡ readOnly) (flags ≡ readWrite) → flags < statusUnit
         at (this e) = omega arith
         at (that e) = omega arith
-
-    free : flags < statusUnit → (k : ℕ) → (o : Option ℕ) → freeRowIn x ≡ o → Opening x (openFree o k flags t x .1)
-    free l k none e = opening-same x
-    free l k (some r) e = opening-slot x g r (free-row x r e) k flags 1 t l (omega arith) k (heldSlot flags (slotAt k x))
-
-    held : flags < statusUnit → (k : ℕ) → (o : Option ℕ) → Opening x (openHeld o k flags t x .1)
-    held l k none = free l k (freeRowIn x) refl
-    held l k (some q) = opening-same x
-
-    new : flags < statusUnit → (o j : Option ℕ) → freeRowIn x ≡ o → Opening x (openNew o j n flags t x .1)
-    new l none j e = opening-same x
-    new l (some r) none e = opening-same x
-    new l (some r) (some k) e = opening-slot x g r (free-row x r e) k flags 0 t l (omega arith) k (newSlot n)
-
-    absent : flags < statusUnit → (y : Bool) → Opening x (cond y (openNew (freeRowIn x) (freeSlotIn x) n flags t x) (refused notFound, x) .1)
-    absent l true = new l (freeRowIn x) (freeSlotIn x) refl
-    absent l false = opening-same x
-
-    named : flags < statusUnit → (o : Option ℕ) → Opening x (openNamed o n flags t x .1)
-    named l none = absent l (writesWith flags)
-    named l (some k) = held l k (rowFound (OnBlob k) x)
-
-    go : (y : Bool) → storeFlags flags ≡ y → Opening x (cond y (openNamed (slotNamed n x) n flags t x) (refused invalid, x) .1)
-    go true h = named (low h) (slotNamed n x)
-    go false h = opening-same x
 
 -- a refusal with a code other than 00
 abbrev Fails : Reply → Type 0
@@ -549,29 +529,16 @@ flashed-refused : (k : FlashKind) (x : State) (c : ℕ) → c ≢ success → Fl
 flashed-refused k x c n = record { opening = opening-same x; image-fails = λ (e : k ≡ Image) (h : Stands x). n }
 
 flashed : (k : FlashKind) (flags t : ℕ) (x : State) → Sound x → Flashed k x (openFlash k flags t x)
-unfolding openFlash
-flashed k flags t x g = go (flashFlags flags)
+flashed k flags t x g = open-flash-has (Flashed k x) x (flashed-refused k x) k flags t free
   where
-    free : rowFound OnFlash x ≡ none → (o : Option ℕ) → freeRowIn x ≡ o → Flashed k x (openFlashFree o k t x)
-    free q none e = flashed-refused k x noRoom (omega arith)
-    free q (some r) e = record {
+    free : (r : ℕ) → flashFlags flags ≡ true → flashListed k (x .flashGroup .phase) ≡ true → rowFound OnFlash x ≡ none → freeRowIn x ≡ some r
+        → Flashed k x (opened flash r (flashNumber k) writeOnly 0 t (openedFlash k (x .flashGroup)) x)
+    free r f l q e = record {
       opening = opening-flash x g r (free-row x r e) (flashNumber k) writeOnly 0 t (omega arith) (omega arith) (openedFlash k (x .flashGroup)) (opened-phase k (x .flashGroup));
       image-fails = λ (i : k ≡ Image) (h : Stands (opened flash r (flashNumber k) writeOnly 0 t (openedFlash k (x .flashGroup)) x .1)).
           absurd (image-stands x g r (free-row x r e) (flashNumber k) writeOnly 0 t (omega arith) (omega arith) (openedFlash k (x .flashGroup))
           (ap (λ (j : FlashKind). openedFlash j (x .flashGroup) .phase) i ∙ image-phase (x .flashGroup)) q h);
     }
-
-    quiet : (o : Option ℕ) → rowFound OnFlash x ≡ o → Flashed k x (openFlashQuiet o k t x)
-    quiet none e = free e (freeRowIn x) refl
-    quiet (some q) e = flashed-refused k x busy (omega arith)
-
-    listed : (y : Bool) → Flashed k x (openFlashListed y k t x)
-    listed true = quiet (rowFound OnFlash x) refl
-    listed false = flashed-refused k x notFound (omega arith)
-
-    go : (y : Bool) → Flashed k x (cond y (openFlashListed (flashListed k (x .flashGroup .phase)) k t x) (refused invalid, x))
-    go true = listed (flashListed k (x .flashGroup .phase))
-    go false = flashed-refused k x invalid (omega arith)
 
 -- ---- every message
 record Moves (image : Bool) (s y : State) : Type 0 where
@@ -606,8 +573,10 @@ abbrev code-of : Request → ℕ → List ℕ → State → ℕ
 code-of q t m s = framed (numberOf q) (answered q t m s .0) .0
 
 deleted-moves : (b : Blob) (m : List ℕ) (s : State) → Moves false s (deleteBlob b m s .1)
-unfolding deleteBlob
-deleted-moves (Store at len) m s = named (slotNamed (part at len m) s)
+unfolding deleteBlob deleteStore
+deleted-moves (Store at len) m s =
+    some-has (λ (x : Reply × State). Moves false s (x .1)) (slotNamed (part at len m) s) (refused notFound, s) _ (moves-same s)
+    (λ (k : ℕ) _. none-has (λ (x : Reply × State). Moves false s (x .1)) (rowFound (OnBlob k) s) (refused busy, s) (done, inBody (slot k) .put freeSlot s) (moves-same s) (λ _. put k))
   where
     put : (k : ℕ) → Moves false s (inBody (slot k) .put freeSlot s)
     put k = record { rows-from = λ x l n. (l, refl); stands-kept = λ h. (refl, go h) }
@@ -616,13 +585,6 @@ deleted-moves (Store at len) m s = named (slotNamed (part at len m) s)
         go (this e) = this e
         go (that e) = that (record { row = e .row; live = e .live; on-verify = e .on-verify; status-is = e .status-is })
 
-    quiet : (o : Option ℕ) (k : ℕ) → Moves false s (deleteQuiet o k s .1)
-    quiet none k = put k
-    quiet (some q) k = moves-same s
-
-    named : (o : Option ℕ) → Moves false s (deleteNamed o s .1)
-    named none = moves-same s
-    named (some k) = quiet (rowFound (OnBlob k) s) k
 deleted-moves (Flash k) m s = moves-same s
 deleted-moves Base m s = moves-same s
 deleted-moves Unknown m s = moves-same s

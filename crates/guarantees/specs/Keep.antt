@@ -12,10 +12,10 @@ use lib.ListN.{length, length-replicate}
 use Rattle.laws.specs.All.{and-true, Or, this, that}
 use Rattle.laws.specs.Bytes.{padded-length}
 use Rattle.laws.specs.Ranges.{part}
-use Rattle.protocol.specs.Numbers.{notFound, invalid, wordLimit, cleanupBlob, rowCount, slotCount, nameSize, slotSize, imageSize, hashSize, sixteenBits, readOnly, readWrite, writeOnly}
+use Rattle.protocol.specs.Numbers.{notFound, wordLimit, cleanupBlob, rowCount, slotCount, nameSize, slotSize, imageSize, hashSize, sixteenBits, readOnly, readWrite, writeOnly, busy}
 use Rattle.protocol.specs.Names.{storeName, storeField, kindOf, flashNumber}
 use Rattle.protocol.specs.Decode.{decoded}
-use Rattle.protocol.specs.Frame.{refused}
+use Rattle.protocol.specs.Frame.{refused, done, Reply}
 use Rattle.protocol.specs.declared.FlashKind.{FlashKind}
 use Rattle.protocol.specs.declared.FlashKind.the-variants.{Image, Hash, Verify, Update, Cleanup}
 use Rattle.protocol.specs.declared.Blob.{Blob}
@@ -25,7 +25,7 @@ use Rattle.protocol.specs.declared.Request.the-variants.{Count, Enumerate, Open
 use Rattle.state.specs.declared.Phase.the-variants.{Idle, Uploading}
 use Rattle.state.specs.State.{State, Slot, FlashBody, Place, slot, flash, Body, placeOf, inRow, inBody, cell}
 use Rattle.state.specs.Parts.{Separate, FitsSlot, FitsBody, body-shape, body-get-put, row-body, body-indep, body-view-fits}
-use Rattle.state.specs.Words.{wordOf, ident, blob, inUse, Live, freeSlot, wordWith, flagsIn, statusIn, cleanIn, writingIn, storeFlags, flashFlags, writesWith, writeBit, store-flags, store-reads, store-writes}
+use Rattle.state.specs.Words.{wordOf, ident, blob, inUse, Live, freeSlot, wordWith, flagsIn, statusIn, cleanIn, writingIn, storeFlags, writesWith, writeBit, store-flags, store-reads, store-writes}
 use Rattle.state.specs.Soundness.{slotAt, isSound}
 use Rattle.state.specs.Facts.{StoreFacts, StoreIdle, FlashIdle, PhaseOk, Session, Sound}
 use Rattle.state.specs.Fresh.{free-idle}
@@ -36,10 +36,9 @@ use Rattle.state.specs.declared.row.Wanted.{Wanted}
 use Rattle.state.specs.declared.row.Wanted.the-variants.{OnBlob, OnFlash}
 use Rattle.rules.specs.Session.{onRow, onFound, onSession, rowFound}
 use Rattle.rules.specs.Sweep.{stale, sweepRow, sweepRows, noted, due, swept}
-use Rattle.rules.specs.Open.{slotNamed, freeRowIn, freeSlotIn, after, freshId, newRow, opened, newSlot, heldSlot, openNew, openFree, openHeld, openNamed, openStore, flashListed, openedFlash, openFlashFree, openFlashQuiet, openFlashListed}
-use Rattle.rules.specs.Open.{openFlash, openBlob, deleteQuiet, deleteNamed, deleteBlob}
+use Rattle.rules.specs.Open.{openStore, openFlash, openBlob}
 use Rattle.rules.specs.Respond.{Effect, answered, respond, jobOutcome}
-use Rattle.rules.specs.Laws.{respond-is, job-is}
+use Rattle.rules.specs.Laws.{respond-is, job-is, some-has, none-has}
 use Rattle.rules.specs.Change.{change-sound, NewName, added-sound, values-sound}
 use Rattle.guarantees.specs.Merging.{on-row-sound}
 use Rattle.guarantees.specs.StorePart.{freed-fits}
@@ -48,6 +47,10 @@ use Rattle.rules.specs.Identifiers.{after-small, fresh-small, fresh-unused}
 use Rattle.protocol.specs.Inside.{BlobInside, Inside, decoded-inside}
 use Rattle.guarantees.specs.Naming.{field-of-name}
 use Rattle.rules.specs.Searches.{free-row, free-slot, named-slot, no-name, no-row-on, no-flash-row, found-live}
+use Rattle.rules.specs.Lookup.{slotNamed, freeRowIn, freeSlotIn, after, freshId}
+use Rattle.rules.specs.Opening.{newRow, opened, newSlot, heldSlot, flashListed, openedFlash}
+use Rattle.rules.specs.Named.{deleteBlob, deleteStore}
+use Rattle.rules.specs.OpenLaws.{open-store-has, open-flash-has}
 
 -- ---- a session's command
 pub session-sound : (a : Wanted) (t : ℕ) (c : Command) (s : State) → Sound s → Sound (onSession a t c s .1)
@@ -198,38 +201,22 @@ held-sound flags t r k s g fl fr fs quiet = go fl
     go (this e) = subst (λ (f : ℕ). Sound (opened (slot k) r k f 1 t (heldSlot f (slotAt k s)) s .1)) (sym e) reader
     go (that e) = subst (λ (f : ℕ). Sound (opened (slot k) r k f 1 t (heldSlot f (slotAt k s)) s .1)) (sym e) writer
 
+-- a state that is sound behind a reply
+abbrev Kept : Reply × State → Type 0
+Kept x = Sound (x .1)
+
+writing : (flags : ℕ) → Or (flags ≡ readOnly) (flags ≡ readWrite) → writesWith flags ≡ true → flags ≡ readWrite
+writing flags (this e) w = absurd (let z = eqb-true (writeBit flags) 1 w in omega arith)
+writing flags (that e) w = e
+
 open-store-sound : (n : List ℕ) (flags t : ℕ) (s : State) → Sound s → storeName n ≡ true → Sound (openStore n flags t s .1)
-unfolding openStore
-open-store-sound n flags t s g nm = go (storeFlags flags) refl
+open-store-sound n flags t s g nm = open-store-has Kept s (λ _ _. g) n flags t held new
   where
-    free : Or (flags ≡ readOnly) (flags ≡ readWrite) → (k : ℕ) → (k < slotCount) × (slotAt k s .held ≡ 1) → rowFound (OnBlob k) s ≡ none → (o : Option ℕ) → freeRowIn s ≡ o → Sound (openFree o k flags t s .1)
-    free fl k fs quiet none e = g
-    free fl k fs quiet (some r) e = held-sound flags t r k s g fl (free-row s r e) fs quiet
+    held : (r k : ℕ) → storeFlags flags ≡ true → slotNamed n s ≡ some k → rowFound (OnBlob k) s ≡ none → freeRowIn s ≡ some r → Kept (opened (slot k) r k flags 1 t (heldSlot flags (slotAt k s)) s)
+    held r k f e quiet i = let a = named-slot n s k e in held-sound flags t r k s g (store-flags flags f) (free-row s r i) (a .0, a .1) quiet
 
-    held : Or (flags ≡ readOnly) (flags ≡ readWrite) → (k : ℕ) → (k < slotCount) × (slotAt k s .held ≡ 1) → (o : Option ℕ) → rowFound (OnBlob k) s ≡ o → Sound (openHeld o k flags t s .1)
-    held fl k fs none e = free fl k fs e (freeRowIn s) refl
-    held fl k fs (some q) e = g
-
-    new : flags ≡ readWrite → slotNamed n s ≡ none → (o j : Option ℕ) → freeRowIn s ≡ o → freeSlotIn s ≡ j → Sound (openNew o j n flags t s .1)
-    new w h none j e f = g
-    new w h (some r) none e f = g
-    new w h (some r) (some k) e f = subst (λ (x : ℕ). Sound (opened (slot k) r k x 0 t (newSlot n) s .1)) (sym w) (new-sound n t r k s g nm h (free-row s r e) (free-slot s k f))
-
-    writing : Or (flags ≡ readOnly) (flags ≡ readWrite) → writesWith flags ≡ true → flags ≡ readWrite
-    writing (this e) w = absurd (let z = eqb-true (writeBit flags) 1 w in omega arith)
-    writing (that e) w = e
-
-    absent : Or (flags ≡ readOnly) (flags ≡ readWrite) → slotNamed n s ≡ none → (y : Bool) → writesWith flags ≡ y → Sound (cond y (openNew (freeRowIn s) (freeSlotIn s) n flags t s) (refused notFound, s) .1)
-    absent fl h true q = new (writing fl q) h (freeRowIn s) (freeSlotIn s) refl refl
-    absent fl h false q = g
-
-    named : Or (flags ≡ readOnly) (flags ≡ readWrite) → (o : Option ℕ) → slotNamed n s ≡ o → Sound (openNamed o n flags t s .1)
-    named fl none e = absent fl e (writesWith flags) refl
-    named fl (some k) e = let a = named-slot n s k e in held fl k (a .0, a .1) (rowFound (OnBlob k) s) refl
-
-    go : (y : Bool) → storeFlags flags ≡ y → Sound (cond y (openNamed (slotNamed n s) n flags t s) (refused invalid, s) .1)
-    go true h = named (store-flags flags h) (slotNamed n s) refl
-    go false h = g
+    new : (r k : ℕ) → storeFlags flags ≡ true → slotNamed n s ≡ none → writesWith flags ≡ true → freeRowIn s ≡ some r → freeSlotIn s ≡ some k → Kept (opened (slot k) r k flags 0 t (newSlot n) s)
+    new r k f e w i j = subst (λ (x : ℕ). Kept (opened (slot k) r k x 0 t (newSlot n) s)) (sym (writing flags (store-flags flags f) w)) (new-sound n t r k s g nm e (free-row s r i) (free-slot s k j))
 
 -- ---- Open, of a flash name
 kind-of-number : (k : FlashKind) → kindOf (flashNumber k) ≡ k
@@ -288,24 +275,7 @@ flash-sound k t r s g listed quiet fr =
     tt
 
 open-flash-sound : (k : FlashKind) (flags t : ℕ) (s : State) → Sound s → Sound (openFlash k flags t s .1)
-unfolding openFlash
-open-flash-sound k flags t s g = go (flashFlags flags)
-  where
-    free : flashListed k (s .flashGroup .phase) ≡ true → rowFound OnFlash s ≡ none → (o : Option ℕ) → freeRowIn s ≡ o → Sound (openFlashFree o k t s .1)
-    free l q none e = g
-    free l q (some r) e = flash-sound k t r s g l q (free-row s r e)
-
-    quiet : flashListed k (s .flashGroup .phase) ≡ true → (o : Option ℕ) → rowFound OnFlash s ≡ o → Sound (openFlashQuiet o k t s .1)
-    quiet l none e = free l e (freeRowIn s) refl
-    quiet l (some q) e = g
-
-    listed : (y : Bool) → flashListed k (s .flashGroup .phase) ≡ y → Sound (openFlashListed y k t s .1)
-    listed true e = quiet e (rowFound OnFlash s) refl
-    listed false e = g
-
-    go : (y : Bool) → Sound (cond y (openFlashListed (flashListed k (s .flashGroup .phase)) k t s) (refused invalid, s) .1)
-    go true = listed (flashListed k (s .flashGroup .phase)) refl
-    go false = g
+open-flash-sound k flags t s g = open-flash-has Kept s (λ _ _. g) k flags t (λ (r : ℕ) _ l q i. flash-sound k t r s g l q (free-row s r i))
 
 open-sound : (b : Blob) (flags t : ℕ) (m : List ℕ) (s : State) → BlobInside m b → Sound s → Sound (openBlob b flags t m s .1)
 unfolding openBlob
@@ -341,16 +311,14 @@ deleted-sound k s g low quiet = change-sound s s′ rowCount (slot k) g (record 
     emptied = body-get-put (slot k) freeSlot s (g .shape) (low, freed-fits)
 
 delete-sound : (b : Blob) (m : List ℕ) (s : State) → Sound s → Sound (deleteBlob b m s .1)
-unfolding deleteBlob
-delete-sound (Store at len) m s g = named (slotNamed (part at len m) s) refl
+unfolding deleteBlob deleteStore
+delete-sound (Store at len) m s g =
+    some-has Kept (slotNamed n s) (refused notFound, s) _ g
+    (λ (k : ℕ) (e : slotNamed n s ≡ some k).
+    none-has Kept (rowFound (OnBlob k) s) (refused busy, s) (done, inBody (slot k) .put freeSlot s) g (deleted-sound k s g (named-slot n s k e .0)))
   where
-    quiet : (k : ℕ) → k < slotCount → (o : Option ℕ) → rowFound (OnBlob k) s ≡ o → Sound (deleteQuiet o k s .1)
-    quiet k l none e = deleted-sound k s g l e
-    quiet k l (some q) e = g
-
-    named : (o : Option ℕ) → slotNamed (part at len m) s ≡ o → Sound (deleteNamed o s .1)
-    named none e = g
-    named (some k) e = quiet k (named-slot (part at len m) s k e .0) (rowFound (OnBlob k) s) refl
+    n : List ℕ
+    n = part at len m
 delete-sound (Flash k) m s g = g
 delete-sound Base m s g = g
 delete-sound Unknown m s g = g

@@ -8,7 +8,7 @@ use Prim.Native.Nat.{ℕ, _+_, _≤_}
 use lib.Dec.{eqb}
 use lib.ListN.{length}
 use Rattle.laws.specs.Ranges.{part}
-use Rattle.protocol.specs.Numbers.{notFound, invalid, slotSize, imageSize, hashSize, success, running, writeOnly}
+use Rattle.protocol.specs.Numbers.{notFound, slotSize, imageSize, hashSize, success, running, writeOnly, busy}
 use Rattle.protocol.specs.Names.{kindOf, flashNumber}
 use Rattle.protocol.specs.Decode.{decoded, numberOf}
 use Rattle.protocol.specs.Frame.{Reply, refused, done, reply, framed}
@@ -20,8 +20,8 @@ use Rattle.protocol.specs.declared.Request.{Request}
 use Rattle.protocol.specs.declared.Request.the-variants.{Count, Enumerate, Open, Read, Write, Commit, Close, Delete, Stat, SessionStat, WriteMeta, Refused}
 use Rattle.state.specs.State.{State, Row, Slot, FlashBody, Place, slot, flash, Body, placeOf, inRow, inBody, cell}
 use Rattle.state.specs.Parts.{cell-steady}
-use Rattle.state.specs.Words.{blobOf, statusOf, writes, blob, storeFlags, flashFlags, writesWith}
-use Rattle.state.specs.Soundness.{isSound}
+use Rattle.state.specs.Words.{blobOf, statusOf, writes, blob, freeSlot}
+use Rattle.state.specs.Soundness.{isSound, slotAt}
 use Rattle.rules.specs.Store.{readStore, stored, writeStore, commitWriting, commitStore, onStore}
 use Rattle.rules.specs.Command.{Command, read, write, commit, stat, close, writeMeta, endJob, commitFits}
 use Rattle.rules.specs.Flash.{writeFlash, startable, verifyJob, updateJob, commitKind, commitFlash, closeFlash, jobEnds, onFlash}
@@ -29,10 +29,13 @@ use Rattle.state.specs.declared.row.Wanted.{Wanted}
 use Rattle.state.specs.declared.row.Wanted.the-variants.{OnBlob, OnFlash}
 use Rattle.rules.specs.Session.{onPart, onPlace, onFound, onSession, rowFound}
 use Rattle.rules.specs.Sweep.{swept}
-use Rattle.rules.specs.Open.{slotNamed, freeRowIn, freeSlotIn, opened, openNew, openFree, openHeld, openNamed, openStore, flashListed, openFlashFree, openFlashQuiet, openFlashListed, openFlash, openBlob, deleteQuiet, deleteNamed}
-use Rattle.rules.specs.Open.{deleteBlob}
+use Rattle.rules.specs.Open.{openStore, openFlash, openBlob}
 use Rattle.rules.specs.Respond.{Effect, effectOf, unsound, answered, respond, silent, jobOutcome}
-use Rattle.rules.specs.Laws.{cond-has, placed-has}
+use Rattle.rules.specs.Laws.{placed-has, some-has, none-has}
+use Rattle.rules.specs.Lookup.{slotNamed}
+use Rattle.rules.specs.Opening.{opened, heldSlot, newSlot, openedFlash}
+use Rattle.rules.specs.Named.{deleteBlob, deleteStore}
+use Rattle.rules.specs.OpenLaws.{open-store-has, open-flash-has}
 
 -- what a refusal leaves as found
 abbrev Refusal : Reply → Type 0
@@ -153,44 +156,14 @@ keep-opened : (p : Place) (r b flags clean t : ℕ) (body : Body p) (s : State) 
 unfolding opened
 keep-opened p r b flags clean t body s h = absurd h
 
-keep-new : (o j : Option ℕ) (n : List ℕ) (flags t : ℕ) (s : State) → Keeps s (openNew o j n flags t s)
-keep-new none j n flags t s = λ h. refl
-keep-new (some r) none n flags t s = λ h. refl
-keep-new (some r) (some k) n flags t s = keep-opened (slot k) r k flags 0 t _ s
-
-keep-free : (o : Option ℕ) (k flags t : ℕ) (s : State) → Keeps s (openFree o k flags t s)
-keep-free none k flags t s = λ h. refl
-keep-free (some r) k flags t s = keep-opened (slot k) r k flags 1 t _ s
-
-keep-held : (o : Option ℕ) (k flags t : ℕ) (s : State) → Keeps s (openHeld o k flags t s)
-keep-held none k flags t s = keep-free (freeRowIn s) k flags t s
-keep-held (some q) k flags t s = λ h. refl
-
-keep-named : (o : Option ℕ) (n : List ℕ) (flags t : ℕ) (s : State) → Keeps s (openNamed o n flags t s)
-keep-named none n flags t s = cond-has (Keeps s) (writesWith flags) (openNew (freeRowIn s) (freeSlotIn s) n flags t s) (refused notFound, s) (keep-new (freeRowIn s) (freeSlotIn s) n flags t s) (λ h. refl)
-keep-named (some k) n flags t s = keep-held (rowFound (OnBlob k) s) k flags t s
-
 keep-open-store : (n : List ℕ) (flags t : ℕ) (s : State) → Keeps s (openStore n flags t s)
-unfolding openStore
 keep-open-store n flags t s =
-    cond-has (Keeps s) (storeFlags flags) (openNamed (slotNamed n s) n flags t s) (refused invalid, s) (keep-named (slotNamed n s) n flags t s) (λ h. refl)
-
-keep-flash-free : (o : Option ℕ) (k : FlashKind) (t : ℕ) (s : State) → Keeps s (openFlashFree o k t s)
-keep-flash-free none k t s = λ h. refl
-keep-flash-free (some r) k t s = keep-opened flash r (flashNumber k) writeOnly 0 t _ s
-
-keep-flash-quiet : (o : Option ℕ) (k : FlashKind) (t : ℕ) (s : State) → Keeps s (openFlashQuiet o k t s)
-keep-flash-quiet none k t s = keep-flash-free (freeRowIn s) k t s
-keep-flash-quiet (some q) k t s = λ h. refl
-
-keep-flash-listed : (y : Bool) (k : FlashKind) (t : ℕ) (s : State) → Keeps s (openFlashListed y k t s)
-keep-flash-listed true k t s = keep-flash-quiet (rowFound OnFlash s) k t s
-keep-flash-listed false k t s = λ h. refl
+    open-store-has (Keeps s) s (λ _ _ h. refl) n flags t (λ (r k : ℕ) _ _ _ _. keep-opened (slot k) r k flags 1 t (heldSlot flags (slotAt k s)) s)
+    (λ (r k : ℕ) _ _ _ _ _. keep-opened (slot k) r k flags 0 t (newSlot n) s)
 
 keep-open-flash : (k : FlashKind) (flags t : ℕ) (s : State) → Keeps s (openFlash k flags t s)
-unfolding openFlash
 keep-open-flash k flags t s =
-    cond-has (Keeps s) (flashFlags flags) (openFlashListed (flashListed k (s .flashGroup .phase)) k t s) (refused invalid, s) (keep-flash-listed (flashListed k (s .flashGroup .phase)) k t s) (λ h. refl)
+    open-flash-has (Keeps s) s (λ _ _ h. refl) k flags t (λ (r : ℕ) _ _ _ _. keep-opened flash r (flashNumber k) writeOnly 0 t (openedFlash k (s .flashGroup)) s)
 
 keep-open : (b : Blob) (flags t : ℕ) (m : List ℕ) (s : State) → Keeps s (openBlob b flags t m s)
 unfolding openBlob
@@ -199,17 +172,11 @@ keep-open (Flash k) flags t m s = keep-open-flash k flags t s
 keep-open Base flags t m s = λ h. refl
 keep-open Unknown flags t m s = λ h. refl
 
-keep-delete-quiet : (o : Option ℕ) (k : ℕ) (s : State) → Keeps s (deleteQuiet o k s)
-keep-delete-quiet none k s = λ h. absurd h
-keep-delete-quiet (some q) k s = λ h. refl
-
-keep-delete-named : (o : Option ℕ) (s : State) → Keeps s (deleteNamed o s)
-keep-delete-named none s = λ h. refl
-keep-delete-named (some k) s = keep-delete-quiet (rowFound (OnBlob k) s) k s
-
 keep-delete : (b : Blob) (m : List ℕ) (s : State) → Keeps s (deleteBlob b m s)
-unfolding deleteBlob
-keep-delete (Store at len) m s = keep-delete-named (slotNamed (part at len m) s) s
+unfolding deleteBlob deleteStore
+keep-delete (Store at len) m s =
+    some-has (Keeps s) (slotNamed (part at len m) s) (refused notFound, s) _ (λ h. refl)
+    (λ (k : ℕ) _. none-has (Keeps s) (rowFound (OnBlob k) s) (refused busy, s) (done, inBody (slot k) .put freeSlot s) (λ h. refl) (λ _ h. absurd h))
 keep-delete (Flash k) m s = λ h. refl
 keep-delete Base m s = λ h. refl
 keep-delete Unknown m s = λ h. refl

@@ -17,8 +17,8 @@ use Rattle.laws.specs.Bytes.{same, padded}
 use Rattle.state.specs.State.{State, Rows, inSessions}
 use Rattle.state.specs.declared.row.Wanted.the-variants.{Id}
 use Rattle.rules.specs.Session.{rowFound}
-use Rattle.rules.specs.Open.{after, unless, freshFrom}
 use Rattle.lookup.specs.Search.{isNone}
+use Rattle.rules.specs.Lookup.{after, unless, freshFrom}
 
 -- ---- equal lists, byte by byte
 -- two lists agree at i

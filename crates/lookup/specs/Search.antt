@@ -14,8 +14,8 @@ use Rattle.state.specs.Answers.{optionOf}
 use Rattle.state.specs.State.{State, withRows, withNames}
 use Rattle.state.specs.Words.{fresh}
 use Rattle.rules.specs.Session.{rowFound}
-use Rattle.rules.specs.Open.{slotNamed, freeRowIn, freeSlotIn}
 use Rattle.rules.specs.Searches.{found-live, named-slot}
+use Rattle.rules.specs.Lookup.{slotNamed, freeRowIn, freeSlotIn}
 
 abbrev pub isNone : Option ℕ → Bool
 isNone none = true

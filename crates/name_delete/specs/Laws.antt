@@ -9,9 +9,10 @@ use Rattle.protocol.specs.Frame.{refused, done}
 use Rattle.protocol.specs.declared.Blob.the-variants.{Store}
 use Rattle.state.specs.State.{State, inBody, slot}
 use Rattle.state.specs.Words.{freeSlot}
-use Rattle.rules.specs.Open.{slotNamed, deleteBlob, deleteNamed, deleteQuiet}
 use Rattle.state.specs.declared.row.Wanted.the-variants.{OnBlob}
 use Rattle.rules.specs.Session.{rowFound}
+use Rattle.rules.specs.Lookup.{slotNamed}
+use Rattle.rules.specs.Named.{deleteBlob, deleteNamed, deleteQuiet}
 
 module _ (start len : ℕ) (m : List ℕ) (s : State) where
   named : (o : Option ℕ) → slotNamed (part start len m) s ≡ o → deleteNamed o s ≡ deleteBlob (Store start len) m s

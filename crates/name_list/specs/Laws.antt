@@ -23,11 +23,11 @@ use Rattle.state.specs.declared.Phase.{Phase}
 use Rattle.state.specs.declared.Phase.the-variants.{Idle, Uploading, Verified}
 use Rattle.state.specs.State.{State}
 use Rattle.state.specs.Soundness.{slotAt}
-use Rattle.rules.specs.Open.{flashListed}
 use Rattle.rules.specs.Listing.{only, committedNames, flashNames, listed, enumerated}
 use Rattle.rules.specs.Counting.{flashCount, committed-count, flash-count}
 use Rattle.name_list.specs.declared.Listed.the-variants.{Base, Slot, Flash, Outside}
 use Rattle.name_list.specs.Listed.{Nth, flashAt, InStore, listedReply}
+use Rattle.rules.specs.Opening.{flashListed}
 
 -- ---- the search for the bit number i: its start, and its end at the last place
 pub ones-start : (m : ℕ) → onesIn 0 m ≡ 0

@@ -21,8 +21,10 @@ use Rattle.state.specs.Agree.{place-slot, place-flash}
 use Rattle.rules.specs.Command.{stateBits}
 use Rattle.rules.specs.Flash.{flashLength}
 use Rattle.rules.specs.Session.{rowFound, statRow, statPart}
-use Rattle.rules.specs.Open.{slotNamed, statBlob, statNamed, statSlot, statKind, flashListed}
 use Rattle.state.specs.declared.row.Wanted.the-variants.{OnBlob}
+use Rattle.rules.specs.Lookup.{slotNamed}
+use Rattle.rules.specs.Opening.{flashListed}
+use Rattle.rules.specs.Named.{statBlob, statNamed, statSlot, statKind}
 
 -- ---- row r, which was read as e
 module _ (r : ℕ) (s : State) (e : Entry) (words : block rowWords r .get (s .sessions .table) ≡ wordsOf e) where

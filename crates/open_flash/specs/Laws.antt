@@ -12,12 +12,14 @@ use Rattle.protocol.specs.Names.{flashNumber}
 use Rattle.protocol.specs.Frame.{refused}
 use Rattle.protocol.specs.declared.FlashKind.{FlashKind}
 use Rattle.state.specs.State.{State, inBody, flash}
-use Rattle.rules.specs.Open.{openedFlash, openFlash, openFlashListed, openFlashQuiet, openFlashFree, flashListed}
+use Rattle.rules.specs.Open.{openFlash}
 use Rattle.state.specs.declared.row.Wanted.the-variants.{OnFlash}
 use Rattle.rules.specs.Session.{rowFound}
 use Rattle.lookup.specs.Search.{free-row}
 use Rattle.open_steps.specs.Steps.{rowOpened}
 use Rattle.open_steps.specs.Laws.{opened-is}
+use Rattle.rules.specs.Opening.{openedFlash, flashListed}
+use Rattle.rules.specs.OpenWays.{openFlashListed, openFlashQuiet, openFlashFree}
 
 module _ (k : FlashKind) (flags t : ℕ) (s : State) where
   allowed : (x : Bool) → eqb flags writeOnly ≡ x → cond x (openFlashListed (flashListed k (s .flashGroup .phase)) k t s) (refused invalid, s) ≡ openFlash k flags t s

@@ -13,11 +13,12 @@ use Rattle.state.specs.State.{State, Place, slot, flash, Body, Slots, inRow, in
 use Rattle.state.specs.Parts.{slotOf-steady}
 use Rattle.state.specs.Soundness.{slotAt}
 use Rattle.rules.specs.Store.{withStaged}
-use Rattle.rules.specs.Open.{freshId, after, withNext, newRow, opened, heldSlot}
 use Rattle.memory_slots.specs.Slots.{stagedAs, staged-put}
 use Rattle.lookup.specs.Laws.{fresh-same}
 use Rattle.open_steps.specs.Steps.{named, rowOpened}
 use Rattle.state.specs.Words.{writesWith}
+use Rattle.rules.specs.Lookup.{freshId, after}
+use Rattle.rules.specs.Opening.{withNext, newRow, opened, heldSlot}
 
 -- the identifier hangs on no slot, and not on the flash
 fresh-put : (p : Place) (b : Body p) (s : State) → freshId (inBody p .put b s) ≡ freshId s

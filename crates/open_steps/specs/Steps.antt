@@ -8,7 +8,8 @@ use Rattle.protocol.specs.Numbers.{slotCount, nameSize}
 use Rattle.protocol.specs.Frame.{Reply, reply}
 use Rattle.state.specs.State.{State, Slot, Slots, slotOf, inRow}
 use Rattle.state.specs.Words.{freeSlot}
-use Rattle.rules.specs.Open.{freshId, after, withNext, newRow}
+use Rattle.rules.specs.Lookup.{freshId, after}
+use Rattle.rules.specs.Opening.{withNext, newRow}
 
 -- what soundness gives of the store: a slot that is not used is free
 abbrev pub FreeZero : Slots → Type 0

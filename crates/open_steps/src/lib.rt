@@ -8,9 +8,9 @@ ghost use Rattle.protocol.specs.Numbers.{rowCount, slotCount, nameMost, sixteen
 ghost use Rattle.state.specs.State.{stateOf, inBody, slot};
 ghost use Rattle.state.specs.Soundness.{slotAt};
 ghost use Rattle.state.specs.Lent.{TableLent, NamesLent, RegionsLent};
-ghost use Rattle.rules.specs.Open.{heldSlot};
 ghost use Rattle.response_types.specs.After.{afterAct};
 ghost use Rattle.open_steps.specs.Steps.{named, rowOpened};
+ghost use Rattle.rules.specs.Opening.{heldSlot};
 use lookup::fresh_id;
 use lookup::next_id;
 use memory_slots::copy_region;

@@ -11,13 +11,16 @@ use Rattle.protocol.specs.Numbers.{slotCount, notFound, noRoom, busy, invalid}
 use Rattle.protocol.specs.Frame.{refused}
 use Rattle.state.specs.State.{State, Slot, inBody, slot}
 use Rattle.state.specs.Soundness.{slotAt}
-use Rattle.rules.specs.Open.{freeRowIn, freeSlotIn, openNew, openFree, openHeld, openNamed, openStore, slotNamed, newSlot, heldSlot}
+use Rattle.rules.specs.Open.{openStore}
 use Rattle.state.specs.declared.row.Wanted.the-variants.{OnBlob}
 use Rattle.rules.specs.Session.{rowFound}
 use Rattle.lookup.specs.Search.{free-row, free-slot}
 use Rattle.open_steps.specs.Steps.{FreeZero, named, rowOpened}
 use Rattle.open_steps.specs.Laws.{opened-is}
 use Rattle.state.specs.Words.{storeFlags, writesWith}
+use Rattle.rules.specs.Lookup.{freeRowIn, freeSlotIn, slotNamed}
+use Rattle.rules.specs.Opening.{newSlot, heldSlot}
+use Rattle.rules.specs.OpenWays.{openNew, openFree, openHeld, openNamed}
 
 -- ---- a new name
 module _ (n : List ℕ) (flags t : ℕ) (s : State) where

@@ -1,6 +1,6 @@
 // Which flash names are listed.
 ghost use mathlib.Core.Path.{_≡_};
-ghost use Rattle.rules.specs.Open.{flashListed};
+ghost use Rattle.rules.specs.Opening.{flashListed};
 use protocol::FlashKind;
 use state::Phase;
 

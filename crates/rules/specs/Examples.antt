@@ -31,7 +31,7 @@ use Rattle.rules.specs.Command.{Command, read, write, Out, placed}
 use Rattle.state.specs.declared.row.Wanted.the-variants.{Id}
 use Rattle.rules.specs.Session.{onPlace, onSession}
 use Rattle.rules.specs.Sweep.{stale, sweepRows, noted, swept}
-use Rattle.rules.specs.Open.{flashListed, openBlob}
+use Rattle.rules.specs.Open.{openBlob}
 use Rattle.rules.specs.Listing.{committedNames, flashNames, listed, count}
 use Rattle.rules.specs.Respond.{Effect, effectOf, answered, respond}
 use Rattle.rules.specs.Laws.{respond-is, placed-fits, placed-over, placed-beyond}
@@ -41,6 +41,7 @@ use Rattle.state.specs.Facts.{Sound, Session}
 use Rattle.rules.specs.Messages.{sent, askOpen, askRead, askWrite, thirtyTwoBits, writeMost, read-decoded, write-decoded}
 use Rattle.rules.specs.Situations.{scanName, letterB, writer, writer-sound, writer-row, writer-slot, writer-live, writer-swept, letterA, name-a}
 use Rattle.rules.specs.Sweeping.{sweeps-table, sweeps-below, sweeps-past, turn-keeps, turn-frees, swept-due, swept-not, due-at, table-swept, AfterOpen, open-fine}
+use Rattle.rules.specs.Opening.{flashListed}
 
 -- ---- the situations
 -- row i is a store session of a sound state, and sees n bytes

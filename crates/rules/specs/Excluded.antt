@@ -3,7 +3,7 @@
 use mathlib.Core.Path.{_≡_, refl, sym, _∙_, ap, subst}
 use mathlib.Core.Logic.{_≢_}
 use mathlib.Core.Bool.{Bool, true, false, _&&_, true≢false}
-use mathlib.Core.Option.{Option, none, some}
+use mathlib.Core.Option.{none, some}
 use mathlib.Core.List.{List, [], _∷_, _++_}
 use Prim.Native.Nat.{ℕ, suc, _+_, _/_, _%_, _≤_, _<_, max}
 use native.Mathlib.Omega.{arith}
@@ -15,21 +15,20 @@ use Rattle.laws.specs.All.{all}
 use Rattle.laws.specs.Bytes.{little, bytesOf, same, same-refl, padded}
 use Rattle.laws.specs.Find.{first-none, first-some}
 use Rattle.laws.specs.Ranges.{part, part-sets}
-use Rattle.protocol.specs.Numbers.{rowWords, slotCount, nameSize, slotSize, readMost, invalid, noRoom, busy, notFound, notSupported, imageSize, hashSize, countCommand}
+use Rattle.protocol.specs.Numbers.{rowWords, slotCount, nameSize, slotSize, readMost, invalid, notSupported, imageSize, hashSize, countCommand}
 use Rattle.protocol.specs.Names.{base, kindOf}
 use Rattle.protocol.specs.Frame.{Reply, refused, done, reply, statFields, header}
 use Rattle.protocol.specs.declared.FlashKind.{FlashKind}
 use Rattle.protocol.specs.declared.FlashKind.the-variants.{Image, Hash, Verify, Update, Cleanup}
 use Rattle.state.specs.declared.Phase.the-variants.{Uploading}
 use Rattle.state.specs.State.{State, Row, Slot, FlashBody, Place, slot, flash, Body}
-use Rattle.state.specs.Words.{wordOf, stampOf, flagsIn, statusOf, wordWith, writes, writingIn, stamped, withClean, flags-with, blobOf, flashFlags}
+use Rattle.state.specs.Words.{wordOf, stampOf, flagsIn, statusOf, wordWith, writes, writingIn, stamped, withClean, flags-with, blobOf}
 use Rattle.state.specs.Soundness.{slotAt, isSound}
 use Rattle.rules.specs.Store.{readCount, readStore, stored, writeStore, onStore, seenLength, withStaged, seenBytes, commitWriting, commitStore}
 use Rattle.rules.specs.Command.{Command, read, write, commit, stat, close, writeMeta, endJob, Out, refuse, stateBits, bytesAfter, lengthAfter, commitFits}
-use Rattle.rules.specs.Session.{onPart, rowFound}
-use Rattle.rules.specs.Open.{slotNamed, freshId, after, opened, openFlash, openFlashListed, openFlashQuiet, openFlashFree, openedFlash, flashListed, freeRowIn}
-use Rattle.state.specs.declared.row.Wanted.the-variants.{OnFlash}
-use Rattle.rules.specs.Laws.{cond-has, placed-has}
+use Rattle.rules.specs.Session.{onPart}
+use Rattle.rules.specs.Open.{openFlash}
+use Rattle.rules.specs.Laws.{placed-has}
 use Rattle.rules.specs.Messages.{thirtyTwoBits, four-bytes, sent}
 use Rattle.rules.specs.Situations.{writer, writer-slot, other-slot}
 use Rattle.rules.specs.Flash.{writeFlash, startable, verifyJob, updateJob, commitKind, commitFlash, onFlash}
@@ -37,6 +36,9 @@ use Rattle.rules.specs.Examples.{count-answer}
 use Rattle.rules.specs.Counting.{flashCount, count-is}
 use Rattle.rules.specs.Respond.{Effect, respond}
 use Rattle.state.specs.Agree.{sound-of-test}
+use Rattle.rules.specs.Lookup.{slotNamed, freshId, after}
+use Rattle.rules.specs.Opening.{opened, openedFlash}
+use Rattle.rules.specs.OpenLaws.{open-flash-has}
 use lib.Count.{ones}
 
 -- ---- one that stores nothing, and one that handles the first Write and acknowledges the rest
@@ -157,21 +159,10 @@ not-uploading c s f e = absurd (let z : _≡_ {A = ℕ} 0 1 = cc in omega arith)
 
 -- AN OPEN OF IMAGE OR HASH THAT IS ACCEPTED LEAVES PHASE UPLOADING
 pub opening-uploads : (k : FlashKind) (flags t : ℕ) (s : State) → Uploads k ≡ true → NowUploading (openFlash k flags t s)
-unfolding openFlash opened
+unfolding opened
 opening-uploads k flags t s h =
-    cond-has NowUploading (flashFlags flags) (openFlashListed (flashListed k (s .flashGroup .phase)) k t s) (refused invalid, s) (listed (flashListed k (s .flashGroup .phase))) (not-uploading invalid s)
-  where
-    free : (o : Option ℕ) → NowUploading (openFlashFree o k t s)
-    free none = not-uploading noRoom s
-    free (some r) = λ (f : List ℕ) (e : reply (bytesOf 2 (freshId s)) ≡ reply f). opened-uploading k (s .flashGroup) h
-
-    quiet : (o : Option ℕ) → NowUploading (openFlashQuiet o k t s)
-    quiet none = free (freeRowIn s)
-    quiet (some q) = not-uploading busy s
-
-    listed : (y : Bool) → NowUploading (openFlashListed y k t s)
-    listed true = quiet (rowFound OnFlash s)
-    listed false = not-uploading notFound s
+    open-flash-has NowUploading s (λ (code : ℕ) _. not-uploading code s) k flags t
+    (λ (r : ℕ) _ _ _ _ (f : List ℕ) (e : reply (bytesOf 2 (freshId s)) ≡ reply f). opened-uploading k (s .flashGroup) h)
 
 -- ---- one with a shared latest time for all stamps
 -- every session command but Close; a job outcome is none

@@ -13,8 +13,8 @@ use Rattle.state.specs.State.{State}
 use Rattle.state.specs.Words.{ident, Live}
 use Rattle.state.specs.declared.row.Wanted.the-variants.{Id}
 use Rattle.rules.specs.Session.{rowFound}
-use Rattle.rules.specs.Open.{after, unless, freshFrom, freshId}
 use Rattle.rules.specs.Searches.{found-row, no-row}
+use Rattle.rules.specs.Lookup.{after, unless, freshFrom, freshId}
 
 -- the successor of an identifier is one
 pub after-small : (id : ℕ) → id < sixteenBits → after id < sixteenBits

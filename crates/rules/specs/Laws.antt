@@ -2,6 +2,7 @@
 use mathlib.Core.Path.{_≡_, refl, _∙_, ap}
 use mathlib.Core.Bool.{Bool, true, false, cond}
 use mathlib.Core.List.{List}
+use mathlib.Core.Option.{Option, none, some}
 use Prim.Native.Nat.{ℕ, _+_, _≤_, _<_}
 use lib.Dec.{leb}
 use borrow.Author.Tests.{leb-true, le-leb, lt-leb}
@@ -17,6 +18,7 @@ use Rattle.rules.specs.Session.{onSession, onRow, onPart}
 use Rattle.rules.specs.Respond.{effectOf, unsound, answered, respond, silent, jobOutcome}
 use mathlib.Core.Logic.{_≢_}
 use Rattle.state.specs.Words.{blob}
+use Rattle.rules.specs.Checks.{someOr, noneOr, whether}
 use lib.ListN.{length}
 
 -- a message in a sound state
@@ -34,6 +36,19 @@ job-is good s h = ap (λ (y : Bool). cond y (effectOf (silent (onSession OnFlash
 pub cond-has : {A : Type 0} (P : A → Type 0) (y : Bool) (a b : A) → P a → P b → P (cond y a b)
 cond-has P true a b x z = x
 cond-has P false a b x z = z
+
+-- the same of the checks that look something up; what was found is known where it goes on
+pub some-has : {A : Type 0} (P : A → Type 0) (o : Option ℕ) (refusal : A) (next : ℕ → A) → P refusal → ((k : ℕ) → o ≡ some k → P (next k)) → P (someOr o refusal next)
+some-has P none refusal next x f = x
+some-has P (some k) refusal next x f = f k refl
+
+pub none-has : {A : Type 0} (P : A → Type 0) (o : Option ℕ) (refusal next : A) → P refusal → (o ≡ none → P next) → P (noneOr o refusal next)
+none-has P none refusal next x f = f refl
+none-has P (some q) refusal next x f = x
+
+pub whether-has : {A : Type 0} (P : A → Type 0) (o : Option ℕ) (one : ℕ → A) (other : A) → ((k : ℕ) → o ≡ some k → P (one k)) → (o ≡ none → P other) → P (whether o one other)
+whether-has P none one other f g = g refl
+whether-has P (some k) one other f g = f k refl
 
 -- ---- Write's checks, for a store slot, the image and the hash alike
 module _ {B : Type 0} (capacity len offset n : ℕ) (r : Row) (b : B) (accepted : Out B) where

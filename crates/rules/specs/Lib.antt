@@ -3,10 +3,16 @@ pub mod Store
 pub mod Flash
 pub mod Session
 pub mod Sweep
+pub mod Checks
+pub mod Lookup
+pub mod Opening
 pub mod Open
+pub mod Named
+pub mod OpenWays
 pub mod Listing
 pub mod Respond
 pub mod Laws
+pub mod OpenLaws
 pub mod Change
 pub mod Searches
 pub mod Identifiers

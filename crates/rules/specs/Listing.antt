@@ -13,7 +13,7 @@ use Rattle.protocol.specs.declared.FlashKind.the-variants.{Image, Hash, Verify,
 use Rattle.state.specs.declared.Phase.{Phase}
 use Rattle.state.specs.State.{State}
 use Rattle.state.specs.Soundness.{slotAt}
-use Rattle.rules.specs.Open.{flashListed}
+use Rattle.rules.specs.Opening.{flashListed}
 
 -- a name that is listed or not
 abbrev pub only : (there : Bool) → List ℕ → List (List ℕ)

@@ -15,8 +15,9 @@ use Rattle.rules.specs.Command.{read, write, commit, stat, close, writeM
 use Rattle.state.specs.declared.row.Wanted.the-variants.{Id, OnFlash}
 use Rattle.rules.specs.Session.{onSession}
 use Rattle.rules.specs.Sweep.{swept}
-use Rattle.rules.specs.Open.{openBlob, deleteBlob, statBlob}
+use Rattle.rules.specs.Open.{openBlob}
 use Rattle.rules.specs.Listing.{counted, enumerated}
+use Rattle.rules.specs.Named.{deleteBlob, statBlob}
 
 -- what a call does: the completion code, the response's bytes, and the state after it
 pub record Effect : Type 0 where

@@ -21,7 +21,7 @@ use Rattle.rules.specs.Command.{Command}
 use Rattle.state.specs.declared.row.Wanted.{Wanted}
 use Rattle.state.specs.declared.row.Wanted.the-variants.{Id, OnBlob, OnFlash}
 use Rattle.rules.specs.Session.{matches, wanted, rowFound, onRow, onFound, onSession}
-use Rattle.rules.specs.Open.{holds, slotNamed, freeRowIn, freeSlotIn}
+use Rattle.rules.specs.Lookup.{holds, slotNamed, freeRowIn, freeSlotIn}
 
 -- ---- free places
 -- the row is free

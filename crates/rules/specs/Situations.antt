@@ -19,12 +19,12 @@ use Rattle.state.specs.Facts.{StoreSession, Sound, PhaseOk, FlashSession, Sessi
 use Rattle.state.specs.Agree.{test-of-sound}
 use Rattle.state.specs.Fresh.{fresh-good}
 use Rattle.rules.specs.Store.{withStaged}
-use Rattle.rules.specs.Open.{newRow, newSlot}
 use Rattle.rules.specs.Change.{added-sound, NewName}
 use native.Mathlib.Decide.{ℕ-discrete}
 use Rattle.protocol.specs.declared.FlashKind.{FlashKind}
 use Rattle.protocol.specs.declared.FlashKind.the-variants.{Image}
 use Rattle.state.specs.declared.Phase.the-variants.{Idle, Uploading}
+use Rattle.rules.specs.Opening.{newRow, newSlot}
 
 -- `/scan/` and one letter
 abbrev pub scanName : ℕ → List ℕ

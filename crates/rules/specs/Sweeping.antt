@@ -11,27 +11,28 @@ use borrow.Author.Tests.{eq-eqb, ne-eqb}
 use lib.ListN.{length}
 use Rattle.laws.specs.All.{Or, this, that}
 use Rattle.laws.specs.Ranges.{part}
-use Rattle.protocol.specs.Numbers.{rowCount, running, notFound, invalid, rowWords, writeOnly, sweepEvery}
-use Rattle.protocol.specs.Frame.{Reply, refused}
+use Rattle.protocol.specs.Numbers.{rowCount, running, rowWords, writeOnly, sweepEvery}
+use Rattle.protocol.specs.Frame.{Reply}
 use Rattle.protocol.specs.Names.{kindOf, flashNumber}
 use Rattle.protocol.specs.declared.Blob.{Blob}
 use Rattle.state.specs.State.{State, Row, Place, slot, flash, Body, placeOf, inRow, inBody, cell}
 use Rattle.state.specs.Parts.{FitsRow, cell-row-other, row-put}
-use Rattle.state.specs.Words.{blobOf, stampOf, statusOf, blob, inUse, freeRow, storeFlags, flashFlags, writesWith}
+use Rattle.state.specs.Words.{blobOf, stampOf, statusOf, blob, inUse, freeRow}
 use Rattle.state.specs.Soundness.{slotAt}
 use Rattle.rules.specs.Store.{onStore}
 use Rattle.rules.specs.Command.{close}
 use Rattle.rules.specs.Flash.{closeFlash, onFlash}
-use Rattle.state.specs.declared.row.Wanted.the-variants.{OnBlob, OnFlash}
-use Rattle.rules.specs.Session.{onPart, onRow, rowFound}
+use Rattle.rules.specs.Session.{onPart, onRow}
 use Rattle.rules.specs.Sweep.{stale, sweepRow, sweepRows, noted, due, swept}
-use Rattle.rules.specs.Open.{flashListed, openBlob, freshId, newRow, opened, newSlot, heldSlot, openNew, openFree, openHeld, openNamed, openStore, openedFlash, openFlashFree, openFlashQuiet, openFlashListed, openFlash, slotNamed}
-use Rattle.rules.specs.Open.{freeRowIn, freeSlotIn}
+use Rattle.rules.specs.Open.{openBlob, openStore, openFlash}
 use Rattle.rules.specs.Laws.{cond-has, other-rows, by-own-part, table-after}
 use Rattle.rules.specs.Searches.{free-row}
 use Rattle.protocol.specs.declared.FlashKind.{FlashKind}
 use Rattle.protocol.specs.declared.Blob.the-variants.{Store, Flash as BlobFlash, Base, Unknown}
-use mathlib.Core.Option.{Option, none, some}
+use Rattle.rules.specs.Lookup.{freshId, freeRowIn}
+use Rattle.rules.specs.Opening.{newRow, opened, newSlot, heldSlot, openedFlash}
+use Rattle.rules.specs.OpenLaws.{open-store-has, open-flash-has}
+use mathlib.Core.Option.{some}
 
 -- ---- Close, of a session without a running job, frees its row
 pub close-frees : (p : Place) (t : ℕ) (r : Row) (b : Body p) → statusOf r ≢ running → onPart p t close r b .1 .0 ≡ freeRow
@@ -146,41 +147,12 @@ module _ (t i : ℕ) (m : List ℕ) (s : State) (size : length (s .sessions .tab
       go (no n) = this (cell-row-other r i p (row, body) s (Ne·symm n))
 
   store-fine : (n : List ℕ) (flags : ℕ) → Fine (openStore n flags t s)
-  unfolding openStore
-  store-fine n flags = cond-has Fine (storeFlags flags) (openNamed (slotNamed n s) n flags t s) (refused invalid, s) (named (slotNamed n s)) as-found
-    where
-      new : (o j : Option ℕ) → freeRowIn s ≡ o → Fine (openNew o j n flags t s)
-      new none j e = as-found
-      new (some r) none e = as-found
-      new (some r) (some k) e = opened-fine (slot k) r k flags 0 (newSlot n) e
-
-      free : (k : ℕ) (o : Option ℕ) → freeRowIn s ≡ o → Fine (openFree o k flags t s)
-      free k none e = as-found
-      free k (some r) e = opened-fine (slot k) r k flags 1 (heldSlot flags (slotAt k s)) e
-
-      held : (k : ℕ) (o : Option ℕ) → Fine (openHeld o k flags t s)
-      held k none = free k (freeRowIn s) refl
-      held k (some q) = as-found
-
-      named : (o : Option ℕ) → Fine (openNamed o n flags t s)
-      named none = cond-has Fine (writesWith flags) (openNew (freeRowIn s) (freeSlotIn s) n flags t s) (refused notFound, s) (new (freeRowIn s) (freeSlotIn s) refl) as-found
-      named (some k) = held k (rowFound (OnBlob k) s)
+  store-fine n flags =
+      open-store-has Fine s (λ _ _. as-found) n flags t (λ (r k : ℕ) _ _ _ e. opened-fine (slot k) r k flags 1 (heldSlot flags (slotAt k s)) e)
+      (λ (r k : ℕ) _ _ _ e _. opened-fine (slot k) r k flags 0 (newSlot n) e)
 
   flash-fine : (k : FlashKind) (flags : ℕ) → Fine (openFlash k flags t s)
-  unfolding openFlash
-  flash-fine k flags = cond-has Fine (flashFlags flags) (openFlashListed (flashListed k (s .flashGroup .phase)) k t s) (refused invalid, s) (listed-fine (flashListed k (s .flashGroup .phase))) as-found
-    where
-      free : (o : Option ℕ) → freeRowIn s ≡ o → Fine (openFlashFree o k t s)
-      free none e = as-found
-      free (some r) e = opened-fine flash r (flashNumber k) writeOnly 0 (openedFlash k (s .flashGroup)) e
-
-      quiet : (o : Option ℕ) → Fine (openFlashQuiet o k t s)
-      quiet none = free (freeRowIn s) refl
-      quiet (some q) = as-found
-
-      listed-fine : (y : Bool) → Fine (openFlashListed y k t s)
-      listed-fine true = quiet (rowFound OnFlash s)
-      listed-fine false = as-found
+  flash-fine k flags = open-flash-has Fine s (λ _ _. as-found) k flags t (λ (r : ℕ) _ _ _ e. opened-fine flash r (flashNumber k) writeOnly 0 (openedFlash k (s .flashGroup)) e)
 
   -- every Open
   pub open-fine : (b : Blob) (flags : ℕ) → Fine (openBlob b flags t m s)

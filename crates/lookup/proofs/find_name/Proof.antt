@@ -7,9 +7,9 @@ use Rattle.laws.specs.Ranges.{part}
 use Rattle.laws.specs.Find.{first, first-at, missed, first-start, first-miss}
 use Rattle.protocol.specs.Numbers.{slotCount}
 use Rattle.state.specs.State.{State, withNames}
-use Rattle.rules.specs.Open.{holds, slotNamed}
 use borrow.Author.Needs.{needs}
 use Rattle.lookup.proofs.find_name.Statement.{statement}
+use Rattle.rules.specs.Lookup.{holds, slotNamed}
 use Rattle.lookup.proofs.find_name.Tie as tie
 
 abbrev Inv-loop : tie.InvT-loop

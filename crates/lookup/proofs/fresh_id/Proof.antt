@@ -5,10 +5,10 @@ use Prim.Native.Nat.{ℕ, _≤_, _<_, _-_, _+_}
 use Rattle.protocol.specs.Numbers.{rowCount, sixteenBits}
 use Rattle.state.specs.State.{State, withRows}
 use Rattle.state.specs.Lent.{TableLent}
-use Rattle.rules.specs.Open.{freshFrom}
 use Rattle.lookup.specs.Laws.{fresh-stop, fresh-step, fresh-last}
 use borrow.Author.Needs.{needs}
 use Rattle.lookup.proofs.fresh_id.Statement.{statement}
+use Rattle.rules.specs.Lookup.{freshFrom}
 use Rattle.lookup.proofs.fresh_id.Tie as tie
 
 abbrev Inv-loop : tie.InvT-loop

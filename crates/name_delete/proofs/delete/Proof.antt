@@ -6,9 +6,9 @@ use lib.ListN.{length}
 use Rattle.protocol.specs.Inside.{BlobInside}
 use Rattle.protocol.specs.declared.Blob.{Blob}
 use Rattle.state.specs.State.{State, stateOf}
-use Rattle.rules.specs.Open.{deleteBlob}
 use borrow.Author.Needs.{needs}
 use Rattle.name_delete.proofs.delete.Statement.{statement}
+use Rattle.rules.specs.Named.{deleteBlob}
 use Rattle.name_delete.proofs.delete.Tie as tie
 
 -- the state at entry, with the buffers that are not lent

@@ -5,9 +5,9 @@ use mathlib.Core.Path.{sym, _∙_, ap, subst}
 use Rattle.protocol.specs.Inside.{BlobInside}
 use Rattle.protocol.specs.declared.Blob.{Blob}
 use Rattle.state.specs.State.{State, stateOf}
-use Rattle.rules.specs.Open.{statBlob}
 use borrow.Author.Needs.{needs}
 use Rattle.name_stat.proofs.stat.Statement.{statement}
+use Rattle.rules.specs.Named.{statBlob}
 use Rattle.name_stat.proofs.stat.Tie as tie
 
 -- the state at entry, with the buffers that are not lent

@@ -5,12 +5,12 @@ use mathlib.Core.Path.{sym, _∙_, ap}
 use Rattle.protocol.specs.Numbers.{imageSize, hashSize}
 use Rattle.protocol.specs.declared.FlashKind.{FlashKind}
 use Rattle.state.specs.State.{State, stateOf, inBody, flash}
-use Rattle.rules.specs.Open.{openedFlash}
 use Rattle.protocol.specs.Sizes.{image-size, hash-size}
 use Rattle.session_flash.proofs.Laws.{cleared}
 use Rattle.open_flash.specs.Lengths.{withoutImage, withoutHash}
 use borrow.Author.Needs.{needs}
 use Rattle.open_flash.proofs.empty_flash.Statement.{statement}
+use Rattle.rules.specs.Opening.{openedFlash}
 use Rattle.open_flash.proofs.empty_flash.Tie as tie
 
 -- the state at entry, with the buffers that are not lent

@@ -7,10 +7,11 @@ use Rattle.laws.specs.Bytes.{bytesOf}
 use Rattle.protocol.specs.Numbers.{rowWords}
 use Rattle.protocol.specs.Frame.{reply}
 use Rattle.state.specs.State.{stateOf, inRow}
-use Rattle.rules.specs.Open.{after, withNext, newRow}
 use Rattle.open_steps.specs.Steps.{rowOpened}
 use borrow.Author.Needs.{needs}
 use Rattle.open_steps.proofs.open_row.Statement.{statement}
+use Rattle.rules.specs.Lookup.{after}
+use Rattle.rules.specs.Opening.{withNext, newRow}
 use Rattle.open_steps.proofs.open_row.Tie as tie
 
 -- the places that the answers read

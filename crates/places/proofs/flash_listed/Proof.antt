@@ -2,9 +2,9 @@
 use mathlib.Core.Path.{sym, _∙_, ap}
 use mathlib.Core.Bool.{not}
 use Rattle.protocol.specs.declared.FlashKind.{FlashKind}
-use Rattle.rules.specs.Open.{flashListed}
 use borrow.Author.Needs.{needs}
 use Rattle.places.proofs.flash_listed.Statement.{statement}
+use Rattle.rules.specs.Opening.{flashListed}
 use Rattle.places.proofs.flash_listed.Tie as tie
 
 -- the places that the answers read
