@@ -584,7 +584,6 @@ deleted-moves (Store at len) m s =
         go : Stands (inBody (slot k) .put freeSlot s) → Stands s
         go (this e) = this e
         go (that e) = that (record { row = e .row; live = e .live; on-verify = e .on-verify; status-is = e .status-is })
-
 deleted-moves (Flash k) m s = moves-same s
 deleted-moves Base m s = moves-same s
 deleted-moves Unknown m s = moves-same s

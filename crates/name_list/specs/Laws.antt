@@ -1,9 +1,10 @@
 -- Laws of the list of names. Assumes nothing.
 use mathlib.Core.Path.{_≡_, refl, sym, _∙_, ap}
 use mathlib.Core.Bool.{Bool, true, false, cond}
-use mathlib.Core.List.{List, [], _∷_, _++_}
+use mathlib.Core.List.{List, [], _∷_, _++_, append-nil}
 use Prim.Native.Nat.{ℕ, zero, suc, _+_, _*_, _-_, _≤_, _<_}
 use native.Mathlib.Nat.{add-zero, add-suc, min-le-left}
+use native.Mathlib.Numerals.{add-one}
 use native.Mathlib.Omega.{arith}
 use native.Mathlib.Decide.{decLt}
 use lib.Count.{ones, onesIn}
@@ -15,18 +16,16 @@ use Rattle.laws.specs.Ranges.{part, block, part-sets, sets-append}
 use Rattle.laws.specs.Bits.{bit, bit-lt}
 use Rattle.laws.specs.Bytes.{text, firstZero}
 use Rattle.laws.specs.Masks.{ones-more, ones-in}
-use Rattle.protocol.specs.Numbers.{slotCount, sixteenBits, outOfRange}
-use Rattle.protocol.specs.Names.{base, kindOf}
+use Rattle.protocol.specs.Numbers.{slotCount, sixteenBits, outOfRange, imageBlob, cleanupBlob}
+use Rattle.protocol.specs.Names.{base, flashName, kindOf}
 use Rattle.protocol.specs.Frame.{Reply, refused, reply}
-use Rattle.protocol.specs.declared.FlashKind.the-variants.{Cleanup}
 use Rattle.state.specs.declared.Phase.{Phase}
-use Rattle.state.specs.declared.Phase.the-variants.{Idle, Uploading, Verified}
 use Rattle.state.specs.State.{State}
 use Rattle.state.specs.Soundness.{slotAt}
 use Rattle.rules.specs.Listing.{only, committedNames, flashNames, listed, enumerated}
-use Rattle.rules.specs.Counting.{flashCount, committed-count, flash-count}
+use Rattle.rules.specs.Counting.{flashCount, committed-count}
 use Rattle.name_list.specs.declared.Listed.the-variants.{Base, Slot, Flash, Outside}
-use Rattle.name_list.specs.Listed.{Nth, flashAt, InStore, listedReply}
+use Rattle.name_list.specs.Listed.{Nth, flashAt, InStore, listedReply, flashKinds, behind, namesFrom, flashFrom}
 use Rattle.rules.specs.Opening.{flashListed}
 
 -- ---- the search for the bit number i: its start, and its end at the last place
@@ -101,49 +100,91 @@ reply-inside a b i x h e =
     rw (length-append a b, lt-ltb i (length a + length b) q, List·getD-append a b [] i h, e)
 
 -- ---- the flash names by number
-pub one-listed : (p : Phase) → 1 ≤ flashCount p
-one-listed Idle = omega arith
-one-listed Uploading = omega arith
-one-listed Verified = omega arith
+pub names-from : (p : Phase) → flashNames p ≡ namesFrom flashKinds imageBlob p
+unfolding flashNames namesFrom kindOf
+names-from p = rw append-nil
 
-pub few-listed : (p : Phase) → flashCount p ≤ 5
-few-listed Idle = omega arith
-few-listed Uploading = omega arith
-few-listed Verified = omega arith
+only-few : (b : Bool) (n : List ℕ) → length (only b n) ≤ 1
+only-few true n = omega arith
+only-few false n = omega arith
 
-flash-far : (p : Phase) (i : ℕ) (names : List ℕ) → flashCount p ≤ i → listedReply (flashAt p i) names ≡ replyAt (flashNames p) i
-unfolding replyAt
-flash-far p i names h =
-    let a : ltb i (flashCount p - 1) ≡ false = le-ltb i (flashCount p - 1) (omega arith) in
-    let b : eqb i (flashCount p - 1) ≡ false = ne-eqb i (flashCount p - 1) (λ (e : i ≡ flashCount p - 1). omega (arith, one-listed p)) in
-    let d : ltb i (length (flashNames p)) ≡ false = le-ltb i (length (flashNames p)) (rw (flash-count p) h) in
-    rw (a, b, d)
+few-from : (n b : ℕ) (p : Phase) → length (namesFrom n b p) ≤ n
+unfolding namesFrom
+few-from zero b p = omega arith
+few-from (suc n) b p =
+    rw length-append (omega (arith, few-from n (suc b) p, only-few (flashListed (kindOf b) p) (flashName (kindOf b))))
+
+pub few-listed : (p : Phase) → flashCount p ≤ flashKinds
+few-listed p = rw (names-from p) (few-from flashKinds imageBlob p)
+
+-- a loop over the blob numbers: at its start, and where it passes b, which is listed or not
+pub start-count : (p : Phase) (b : ℕ) → b ≡ imageBlob → length (namesFrom (behind b) b p) ≡ flashCount p
+start-count p b e = ap (λ (j : ℕ). length (namesFrom (behind j) j p)) e ∙ ap length (sym (names-from p))
+
+module _ (p : Phase) (b : ℕ) (low : b ≤ cleanupBlob) where
+  more : behind b ≡ suc (behind (b + 1))
+  more = omega arith
+
+  pub count-shown : flashListed (kindOf b) p ≡ true → length (namesFrom (behind b) b p) ≡ suc (length (namesFrom (behind (b + 1)) (b + 1) p))
+  unfolding namesFrom
+  count-shown e = rw (more, e, add-one)
+
+  pub count-hidden : flashListed (kindOf b) p ≡ false → length (namesFrom (behind b) b p) ≡ length (namesFrom (behind (b + 1)) (b + 1) p)
+  unfolding namesFrom
+  count-hidden e = rw (more, e, add-one)
+
+  module _ (i : ℕ) where
+    pub at-first : flashListed (kindOf b) p ≡ true → i ≡ 0 → flashFrom (behind b) b p i ≡ Flash (kindOf b)
+    unfolding flashFrom
+    at-first e z = rw (more, e, z)
+
+    pub at-shown : flashListed (kindOf b) p ≡ true → (i ≡ 0 → ⊥) → flashFrom (behind b) b p i ≡ flashFrom (behind (b + 1)) (b + 1) p (i - 1)
+    unfolding flashFrom
+    at-shown e z = rw (more, e, ne-eqb i 0 z, add-one)
+
+    pub at-hidden : flashListed (kindOf b) p ≡ false → flashFrom (behind b) b p i ≡ flashFrom (behind (b + 1)) (b + 1) p i
+    unfolding flashFrom
+    at-hidden e = rw (more, e, add-one)
+
+pub none-behind : (p : Phase) (b : ℕ) → cleanupBlob < b → length (namesFrom (behind b) b p) ≡ 0
+unfolding namesFrom
+none-behind p b h = let e : behind b ≡ 0 = omega arith in rw e
+
+pub outside : (p : Phase) (b i : ℕ) → cleanupBlob < b → flashFrom (behind b) b p i ≡ Outside
+unfolding flashFrom
+outside p b i h = let e : behind b ≡ 0 = omega arith in rw e
+
+from-in-store : (n b : ℕ) (p : Phase) (i : ℕ) → InStore (flashFrom n b p i)
+unfolding flashFrom
+from-in-store zero b p i = tt
+from-in-store (suc n) b p i = go (flashListed (kindOf b) p) (eqb i 0) (from-in-store n (suc b) p (i - 1)) (from-in-store n (suc b) p i)
+  where
+    go : (x y : Bool) → InStore (flashFrom n (suc b) p (i - 1)) → InStore (flashFrom n (suc b) p i)
+        → InStore (cond x (cond y (Flash (kindOf b)) (flashFrom n (suc b) p (i - 1))) (flashFrom n (suc b) p i))
+    go true true q r = tt
+    go true false q r = q
+    go false y q r = r
 
 pub flash-in-store : (p : Phase) (i : ℕ) → InStore (flashAt p i)
-flash-in-store p i = go (ltb i (flashCount p - 1)) (eqb i (flashCount p - 1))
+flash-in-store p i = from-in-store flashKinds imageBlob p i
+
+from-reply : (n b : ℕ) (p : Phase) (i : ℕ) (names : List ℕ) → listedReply (flashFrom n b p i) names ≡ replyAt (namesFrom n b p) i
+unfolding replyAt namesFrom flashFrom
+from-reply zero b p i names = rw (le-ltb i 0 (omega arith))
+from-reply (suc n) b p i names = go (λ (j : ℕ). from-reply n (suc b) p j names) (flashListed (kindOf b) p) i
   where
-    go : (x y : Bool) → InStore (cond x (Flash (kindOf (slotCount + i))) (cond y (Flash Cleanup) Outside))
-    go true y = tt
-    go false true = tt
-    go false false = tt
+    go : ((j : ℕ) → listedReply (flashFrom n (suc b) p j) names ≡ replyAt (namesFrom n (suc b) p) j) → (x : Bool) (j : ℕ)
+        → listedReply (cond x (cond (eqb j 0) (Flash (kindOf b)) (flashFrom n (suc b) p (j - 1))) (flashFrom n (suc b) p j)) names
+        ≡ replyAt (only x (flashName (kindOf b)) ++ namesFrom n (suc b) p) j
+    go more true zero = sym (reply-inside (flashName (kindOf b) ∷ []) (namesFrom n (suc b) p) 0 (flashName (kindOf b)) (omega arith) refl)
+    go more true (suc j) =
+        let e : suc j - 1 ≡ j = omega arith in
+        let f : eqb (suc j) 0 ≡ false = ne-eqb (suc j) 0 (λ (q : suc j ≡ 0). omega arith) in
+        rw (f, e) (more j ∙ sym (reply-behind (flashName (kindOf b) ∷ []) (namesFrom n (suc b) p) (suc j) j (omega arith)))
+    go more false j = more j
 
 flash-reply : (p : Phase) (i : ℕ) (names : List ℕ) → listedReply (flashAt p i) names ≡ replyAt (flashNames p) i
-unfolding flashNames flashListed replyAt kindOf
-flash-reply Idle zero names = refl
-flash-reply Idle (suc zero) names = refl
-flash-reply Idle (suc (suc zero)) names = refl
-flash-reply Idle (suc (suc (suc i))) names = flash-far Idle (suc (suc (suc i))) names (omega arith)
-flash-reply Uploading zero names = refl
-flash-reply Uploading (suc zero) names = refl
-flash-reply Uploading (suc (suc zero)) names = refl
-flash-reply Uploading (suc (suc (suc zero))) names = refl
-flash-reply Uploading (suc (suc (suc (suc i)))) names = flash-far Uploading (suc (suc (suc (suc i)))) names (omega arith)
-flash-reply Verified zero names = refl
-flash-reply Verified (suc zero) names = refl
-flash-reply Verified (suc (suc zero)) names = refl
-flash-reply Verified (suc (suc (suc zero))) names = refl
-flash-reply Verified (suc (suc (suc (suc zero)))) names = refl
-flash-reply Verified (suc (suc (suc (suc (suc i))))) names = flash-far Verified (suc (suc (suc (suc (suc i))))) names (omega arith)
+flash-reply p i names = from-reply flashKinds imageBlob p i names ∙ ap (λ (l : List (List ℕ)). replyAt l i) (sym (names-from p))
 
 -- ---- Enumerate's three ways
 enumerated-is : (i : ℕ) (s : State) → enumerated i s ≡ replyAt ((base ∷ []) ++ (committedNames slotCount s ++ flashNames (s .flashGroup .phase))) i

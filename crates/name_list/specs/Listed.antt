@@ -2,23 +2,23 @@
 use mathlib.Core.Path.{_≡_}
 use mathlib.Core.Bool.{cond}
 use mathlib.Core.List.{List, [], _∷_, _++_}
-use Prim.Native.Nat.{ℕ, _+_, _-_, _≤_, _<_}
+use Prim.Native.Nat.{ℕ, zero, suc, _+_, _-_, _≤_, _<_}
 use lib.Count.{onesIn}
-use lib.Dec.{eqb, ltb}
+use lib.Dec.{eqb}
 use Rattle.laws.specs.Ranges.{block}
 use Rattle.laws.specs.Bits.{bit}
 use Rattle.laws.specs.Bytes.{text}
-use Rattle.protocol.specs.Numbers.{slotCount, nameSize, readMost, outOfRange}
+use Rattle.protocol.specs.Numbers.{slotCount, nameSize, readMost, outOfRange, imageBlob}
 use Rattle.protocol.specs.Names.{base, flashName, kindOf}
 use Rattle.protocol.specs.Frame.{Reply, refused, reply}
-use Rattle.protocol.specs.declared.FlashKind.the-variants.{Cleanup}
 use Rattle.state.specs.declared.Phase.{Phase}
-use Rattle.rules.specs.Counting.{flashCount}
+use Rattle.rules.specs.Listing.{listedFlash}
 use Rattle.response_types.specs.After.{replyOf, fieldsLaid}
 use Rattle.response_types.specs.declared.Said.{Said}
 use Rattle.response_types.specs.After.{fieldsLength}
 use Rattle.name_list.specs.declared.Listed.{Listed}
 use Rattle.name_list.specs.declared.Listed.the-variants.{Base, Slot, Flash, Outside}
+use Rattle.rules.specs.Opening.{flashListed}
 
 -- k is the set bit of the mask m with i set bits below it
 pub record Nth (m i k : ℕ) : Type 0 where
@@ -26,9 +26,26 @@ pub record Nth (m i k : ℕ) : Type 0 where
   pub is-set : bit k m ≡ 1
   pub below : onesIn k m ≡ i
 
--- the listed flash name number i: the first ones in their order, then cleanup
+-- how many flash names there are; their blob numbers follow one another, from image's on
+abbrev pub flashKinds : ℕ
+flashKinds = 5
+
+-- how many of them have the blob number b or a higher one
+abbrev pub behind : ℕ → ℕ
+behind b = imageBlob + flashKinds - b
+
+-- of the n flash names from blob number b on, the listed ones
+unfoldable pub namesFrom : ℕ → ℕ → Phase → List (List ℕ)
+namesFrom zero b p = []
+namesFrom (suc n) b p = listedFlash (kindOf b) p ++ namesFrom n (suc b) p
+
+-- of them the listed one number i
+unfoldable pub flashFrom : ℕ → ℕ → Phase → ℕ → Listed
+flashFrom zero b p i = Outside
+flashFrom (suc n) b p i = cond (flashListed (kindOf b) p) (cond (eqb i 0) (Flash (kindOf b)) (flashFrom n (suc b) p (i - 1))) (flashFrom n (suc b) p i)
+
 abbrev pub flashAt : Phase → ℕ → Listed
-flashAt p i = cond (ltb i (flashCount p - 1)) (Flash (kindOf (slotCount + i))) (cond (eqb i (flashCount p - 1)) (Flash Cleanup) Outside)
+flashAt p i = flashFrom flashKinds imageBlob p i
 
 -- a slot that is listed is one of the store's
 abbrev pub InStore : Listed → Type 0

@@ -16,6 +16,7 @@ ghost use Rattle.rules.specs.Listing.{counted, enumerated};
 ghost use Rattle.response_types.specs.After.{replyOf};
 ghost use Rattle.name_list.specs.Listed.{Nth, flashAt, InStore, listedReply, Answers};
 use memory_copy::copy_at;
+use name_flash::flash_listed;
 use protocol::Code;
 use protocol::FIELDS_AT;
 use protocol::FlashKind;
@@ -36,15 +37,20 @@ pub enum Listed {
     Outside,
 }
 
-// How many flash names are listed: image, hash and cleanup; verify if not Idle; update if Verified.
+// How many flash names are listed.
 fn flash_count(phase: Phase) -> u32
     ensures { λ x. ⌜ x ≡ flashCount phase ⌝ }
 {
-    match phase {
-        Phase::Idle => 3,
-        Phase::Uploading => 4,
-        Phase::Verified => 5,
+    let last = FlashKind::Cleanup.number();
+    let mut n: u32 = 0;
+    let mut blob = FlashKind::Image.number();
+    while blob <= last {
+        if flash_listed(kind_of(blob), phase) {
+            n += 1;
+        }
+        blob += 1;
     }
+    n
 }
 
 // Count: the base, the committed slots, the flash names listed.
@@ -78,16 +84,22 @@ fn nth_set(mask: u32, i: u32) -> usize
     k
 }
 
-// The listed flash name number i; cleanup is always the last.
+// The listed flash name number i.
 fn flash_at(phase: Phase, i: u32) -> Listed
     ensures { λ x. ⌜ x ≡ flashAt phase i ⌝ }
 {
-    let last = flash_count(phase) - 1;
-    if i < last {
-        return Listed::Flash(kind_of(SLOTS as u32 + i));
-    }
-    if i == last {
-        return Listed::Flash(FlashKind::Cleanup);
+    let last = FlashKind::Cleanup.number();
+    let mut left = i;
+    let mut blob = FlashKind::Image.number();
+    while blob <= last {
+        let kind = kind_of(blob);
+        if flash_listed(kind, phase) {
+            if left == 0 {
+                return Listed::Flash(kind);
+            }
+            left -= 1;
+        }
+        blob += 1;
     }
     Listed::Outside
 }
@@ -137,11 +149,26 @@ fn lay_flash(kind: FlashKind, answer: &mut [u8]) -> Said
     ensures { λ x. ⌜ Answers (reply (flashName kind ++ (0 ∷ []))) x (now (answer .entry)) (now (answer .exit)) ⌝ }
 {
     match kind {
-        FlashKind::Image => lay(b"/flash/image", answer),
-        FlashKind::Hash => lay(b"/flash/hash", answer),
-        FlashKind::Verify => lay(b"/flash/verify", answer),
-        FlashKind::Update => lay(b"/flash/update", answer),
-        FlashKind::Cleanup => lay(b"/flash/cleanup", answer),
+        FlashKind::Image => {
+            let name = protocol::FLASH_IMAGE;
+            lay(&name, answer)
+        }
+        FlashKind::Hash => {
+            let name = protocol::FLASH_HASH;
+            lay(&name, answer)
+        }
+        FlashKind::Verify => {
+            let name = protocol::FLASH_VERIFY;
+            lay(&name, answer)
+        }
+        FlashKind::Update => {
+            let name = protocol::FLASH_UPDATE;
+            lay(&name, answer)
+        }
+        FlashKind::Cleanup => {
+            let name = protocol::FLASH_CLEANUP;
+            lay(&name, answer)
+        }
     }
 }
 
@@ -151,7 +178,10 @@ pub fn enumerate(index: u32, control: Control, names: &[u8], answer: &mut [u8]) 
     ensures { λ x. ⌜ ((table committed staged image hash : List ℕ) → Answers (enumerated index (stateOf control table (now (names .entry)) committed staged image hash)) x (now (answer .entry)) (now (answer .exit))) ⌝ }
 {
     match listed_at(index, control) {
-        Listed::Base => lay(b"/scan/", answer),
+        Listed::Base => {
+            let name = protocol::BASE;
+            lay(&name, answer)
+        }
         Listed::Slot(k) => lay_slot(k, names, answer),
         Listed::Flash(kind) => lay_flash(kind, answer),
         Listed::Outside => Said::Refused(Code::OUT_OF_RANGE),

@@ -1,5 +1,5 @@
 -- The ways through Stat. Assumes nothing.
-use mathlib.Core.Path.{_≡_, refl, sym, _∙_, ap}
+use mathlib.Core.Path.{_≡_, sym, _∙_, ap}
 use mathlib.Core.Bool.{Bool, true, false, cond}
 use mathlib.Core.List.{List}
 use mathlib.Core.Option.{Option, none, some}
@@ -10,7 +10,7 @@ use Rattle.laws.specs.Ranges.{part, block}
 use Rattle.laws.specs.Bits.{bit}
 use Rattle.protocol.specs.Numbers.{slotCount, rowWords, notFound, stateCommitted}
 use Rattle.protocol.specs.Names.{kindOf, flashNumber}
-use Rattle.protocol.specs.Frame.{refused, reply, statFields}
+use Rattle.protocol.specs.Frame.{refused, reply, statFields, Reply}
 use Rattle.protocol.specs.declared.Blob.the-variants.{Store, Flash}
 use Rattle.protocol.specs.declared.FlashKind.{FlashKind}
 use Rattle.state.specs.State.{State, Place, slot, flash, placeOf, inBody}
@@ -24,7 +24,9 @@ use Rattle.rules.specs.Session.{rowFound, statRow, statPart}
 use Rattle.state.specs.declared.row.Wanted.the-variants.{OnBlob}
 use Rattle.rules.specs.Lookup.{slotNamed}
 use Rattle.rules.specs.Opening.{flashListed}
-use Rattle.rules.specs.Named.{statBlob, statNamed, statSlot, statKind}
+use Rattle.rules.specs.Named.{statBlob, statKind, statName}
+use Rattle.rules.specs.Checks.{someOr, whether, holdsOr}
+use Rattle.state.specs.Soundness.{slotAt}
 
 -- ---- row r, which was read as e
 module _ (r : ℕ) (s : State) (e : Entry) (words : block rowWords r .get (s .sessions .table) ≡ wordsOf e) where
@@ -44,37 +46,40 @@ module _ (r : ℕ) (s : State) (e : Entry) (words : block rowWords r .get (s .se
 
 -- ---- a store name
 module _ (start len : ℕ) (m : List ℕ) (s : State) where
-  named : (o : Option ℕ) → slotNamed (part start len m) s ≡ o → statNamed o s ≡ statBlob (Store start len) m s
-  unfolding statBlob
-  named o e = ap (λ (x : Option ℕ). statNamed x s) (sym e)
+  -- a session on slot k, or none
+  abbrev held : (k : ℕ) → Option ℕ → Reply
+  held k o = whether o (λ (r : ℕ). reply (statRow r s)) (reply (statFields stateCommitted (slotAt k s .committedLen)))
+
+  named : (o : Option ℕ) → slotNamed (part start len m) s ≡ o → someOr o (refused notFound) (λ (k : ℕ). held k (rowFound (OnBlob k) s)) ≡ statBlob (Store start len) m s
+  unfolding statBlob statName
+  named o e = ap (λ (x : Option ℕ). someOr x (refused notFound) (λ (k : ℕ). held k (rowFound (OnBlob k) s))) (sym e)
 
   pub store-none : slotNamed (part start len m) s ≡ none → refused notFound ≡ statBlob (Store start len) m s
   store-none e = named none e
 
   module _ (k : ℕ) (e : slotNamed (part start len m) s ≡ some k) where
-    held : (o : Option ℕ) → rowFound (OnBlob k) s ≡ o → statSlot o k s ≡ statBlob (Store start len) m s
-    held o f = ap (λ (x : Option ℕ). statSlot x k s) (sym f) ∙ named (some k) e
-
     pub store-closed : rowFound (OnBlob k) s ≡ none → reply (statFields stateCommitted (getD (s .store .committedLens) k 0)) ≡ statBlob (Store start len) m s
-    store-closed f = held none f
+    store-closed f = ap (held k) (sym f) ∙ named (some k) e
 
     pub store-open : (r : ℕ) → rowFound (OnBlob k) s ≡ some r → reply (statRow r s) ≡ statBlob (Store start len) m s
-    store-open r f = held (some r) f
+    store-open r f = ap (held k) (sym f) ∙ named (some k) e
 
 -- ---- a flash name
 module _ (k : FlashKind) (m : List ℕ) (s : State) where
-  there : (b : Bool) → flashListed k (s .flashGroup .phase) ≡ b → (o : Option ℕ) → rowFound (OnBlob (flashNumber k)) s ≡ o → cond b (statKind o k s) (refused notFound) ≡ statBlob (Flash k) m s
-  unfolding statBlob
-  there b e o f =
-      ap (λ (x : Option ℕ). cond b (statKind x k s) (refused notFound)) (sym f)
-      ∙ ap (λ (x : Bool). cond x (statKind (rowFound (OnBlob (flashNumber k)) s) k s) (refused notFound)) (sym e)
+  -- the flash session on it, or none
+  abbrev there : Option ℕ → Reply
+  there o = whether o (λ (r : ℕ). reply (statRow r s)) (reply (statFields 0 (flashLength k (s .flashGroup))))
+
+  listed : (b : Bool) → flashListed k (s .flashGroup .phase) ≡ b → holdsOr b (refused notFound) (there (rowFound (OnBlob (flashNumber k)) s)) ≡ statBlob (Flash k) m s
+  unfolding statBlob statKind
+  listed b e = ap (λ (x : Bool). holdsOr x (refused notFound) (there (rowFound (OnBlob (flashNumber k)) s))) (sym e)
 
   pub flash-hidden : flashListed k (s .flashGroup .phase) ≡ false → refused notFound ≡ statBlob (Flash k) m s
-  flash-hidden e = there false e (rowFound (OnBlob (flashNumber k)) s) refl
+  flash-hidden e = listed false e
 
   module _ (e : flashListed k (s .flashGroup .phase) ≡ true) where
     pub flash-closed : rowFound (OnBlob (flashNumber k)) s ≡ none → reply (statFields 0 (flashLength k (s .flashGroup))) ≡ statBlob (Flash k) m s
-    flash-closed f = there true e none f
+    flash-closed f = ap there (sym f) ∙ listed true e
 
     pub flash-open : (r : ℕ) → rowFound (OnBlob (flashNumber k)) s ≡ some r → reply (statRow r s) ≡ statBlob (Flash k) m s
-    flash-open r f = there true e (some r) f
+    flash-open r f = ap there (sym f) ∙ listed true e

@@ -67,7 +67,8 @@ pub fn store_name(n: &[u8]) -> bool
     if BASE_SIZE + STORE_NAME_MOST < n.len() {
         return false;
     }
-    same_bytes(&n[..BASE_SIZE], b"/scan/") & all_alnum(&n[BASE_SIZE..])
+    let base = protocol::BASE;
+    same_bytes(&n[..BASE_SIZE], &base) & all_alnum(&n[BASE_SIZE..])
 }
 
 // What a name names; it stands in the message from `at` on.
@@ -80,22 +81,28 @@ pub fn blob_named(at: usize, n: &[u8]) -> Blob
             len: n.len(),
         };
     }
-    if same_bytes(n, b"/flash/image") {
+    let image = protocol::FLASH_IMAGE;
+    if same_bytes(n, &image) {
         return Blob::Flash(FlashKind::Image);
     }
-    if same_bytes(n, b"/flash/hash") {
+    let hash = protocol::FLASH_HASH;
+    if same_bytes(n, &hash) {
         return Blob::Flash(FlashKind::Hash);
     }
-    if same_bytes(n, b"/flash/verify") {
+    let verify = protocol::FLASH_VERIFY;
+    if same_bytes(n, &verify) {
         return Blob::Flash(FlashKind::Verify);
     }
-    if same_bytes(n, b"/flash/update") {
+    let update = protocol::FLASH_UPDATE;
+    if same_bytes(n, &update) {
         return Blob::Flash(FlashKind::Update);
     }
-    if same_bytes(n, b"/flash/cleanup") {
+    let cleanup = protocol::FLASH_CLEANUP;
+    if same_bytes(n, &cleanup) {
         return Blob::Flash(FlashKind::Cleanup);
     }
-    if same_bytes(n, b"/scan/") {
+    let base = protocol::BASE;
+    if same_bytes(n, &base) {
         return Blob::Base;
     }
     Blob::Unknown

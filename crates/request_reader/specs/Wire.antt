@@ -5,6 +5,7 @@ use mathlib.Core.List.{List}
 use lib.ListN.{getD}
 use Rattle.laws.specs.Bytes.{little}
 use Rattle.request_reader.specs.declared.Reader.{Reader}
+use Rattle.request_reader.specs.declared.Fields.{Fields}
 use Rattle.request_reader.specs.declared.CrcField.{CrcField}
 use Rattle.request_reader.specs.declared.IndexFields.{IndexFields}
 use Rattle.request_reader.specs.declared.OpenFields.{OpenFields}
@@ -25,6 +26,10 @@ le32 s at = little 4 at s
 -- the same body, n places on
 abbrev pub onward : Reader → ℕ → Reader
 onward r n = record { body = r .body; at = r .at + n }
+
+-- the CRC and three numbers of a, b and c bytes, one behind the other
+abbrev pub fieldsOf : List ℕ → ℕ → ℕ → ℕ → Fields
+fieldsOf s a b c = record { crc = little 2 0 s; first = little a 2 s; second = little b (2 + a) s; third = little c (2 + a + b) s; rest = 2 + a + b + c }
 
 unfoldable pub crcOf : List ℕ → CrcField
 crcOf s = record { crc = le16 s 0; rest = 2 }

@@ -1,8 +1,9 @@
 // A reader of a message's body: it holds the lent bytes and the place of the next one. The functions over it are thin: each
 // takes it apart and leaves the work to a covered function on a slice and a number.
 ghost use mathlib.Core.Path.{_≡_};
-ghost use Prim.Native.Nat.{_+_, _<_, _^_};
-ghost use Rattle.request_reader.specs.Wire.{byte, le16, le32, onward, crcOf, indexOf, openOf, readOf, writeOf, commitOf, sessionOf};
+ghost use Prim.Native.Nat.{_+_, _<_, _≤_, _^_};
+ghost use Rattle.laws.specs.Bytes.{little};
+ghost use Rattle.request_reader.specs.Wire.{byte, le16, le32, onward, fieldsOf, crcOf, indexOf, openOf, readOf, writeOf, commitOf, sessionOf};
 
 fn wide16(x: u8) -> u16
     ensures { λ r. ⌜ r ≡ x ⌝ }
@@ -11,6 +12,12 @@ fn wide16(x: u8) -> u16
 }
 
 fn wide32(x: u16) -> u32
+    ensures { λ r. ⌜ r ≡ x ⌝ }
+{
+    x as u32
+}
+
+fn wide8(x: u8) -> u32
     ensures { λ r. ⌜ r ≡ x ⌝ }
 {
     x as u32
@@ -53,6 +60,20 @@ pub fn u32_at(s: &[u8], at: usize) -> u32
     }
 }
 
+// The number of n bytes at a place, lowest byte first.
+fn number_at(s: &[u8], at: usize, n: usize) -> u32
+    requires { ⌜ (n ≤ 4) × (at + n < 2 ^ 64) ⌝ }
+    ensures { λ r. ⌜ r ≡ little n at (now (s .entry)) ⌝ }
+{
+    let mut r: u32 = 0;
+    let mut i = n;
+    while 0 < i {
+        i -= 1;
+        r = wide8(u8_at(s, at + i)) + 256 * r;
+    }
+    r
+}
+
 pub struct Reader<'a> {
     pub body: &'a [u8],
     pub at: usize,
@@ -65,34 +86,43 @@ impl<'a> Reader<'a> {
         Reader { body, at: 0 }
     }
 
-    // One byte is read, and the place moves on.
-    pub fn take_u8(&mut self) -> u8
-        requires { ⌜ now self .at + 1 < 2 ^ 64 ⌝ }
-        ensures { λ v. ⌜ (v ≡ byte (now (now (self .entry) .body)) (now (self .entry) .at)) × (now (self .exit) ≡ onward (now (self .entry)) 1) ⌝ }
+    // A number of n bytes is read, and the place moves on.
+    pub fn take(&mut self, n: usize) -> u32
+        requires { ⌜ (n ≤ 4) × (now self .at + n < 2 ^ 64) ⌝ }
+        ensures { λ v. ⌜ (v ≡ little n (now (self .entry) .at) (now (now (self .entry) .body))) × (now (self .exit) ≡ onward (now (self .entry)) n) ⌝ }
     {
         let at = self.at;
-        self.at = at + 1;
-        u8_at(self.body, at)
+        self.at = at + n;
+        number_at(self.body, at, n)
     }
+}
 
-    // Two bytes are read, and the place moves on.
-    pub fn take_u16(&mut self) -> u16
-        requires { ⌜ now self .at + 2 < 2 ^ 64 ⌝ }
-        ensures { λ v. ⌜ (v ≡ le16 (now (now (self .entry) .body)) (now (self .entry) .at)) × (now (self .exit) ≡ onward (now (self .entry)) 2) ⌝ }
-    {
-        let at = self.at;
-        self.at = at + 2;
-        u16_at(self.body, at)
-    }
+// The numbers in front of a body, and the place behind them.
+struct Fields {
+    crc: u32,
+    first: u32,
+    second: u32,
+    third: u32,
+    rest: usize,
+}
 
-    // Four bytes are read, and the place moves on.
-    pub fn take_u32(&mut self) -> u32
-        requires { ⌜ now self .at + 4 < 2 ^ 64 ⌝ }
-        ensures { λ v. ⌜ (v ≡ le32 (now (now (self .entry) .body)) (now (self .entry) .at)) × (now (self .exit) ≡ onward (now (self .entry)) 4) ⌝ }
-    {
-        let at = self.at;
-        self.at = at + 4;
-        u32_at(self.body, at)
+// The CRC and up to three numbers are read front to back; each is so many bytes wide, and a number of no bytes is 0.
+fn take_fields(body: &[u8], first: usize, second: usize, third: usize) -> Fields
+    requires { ⌜ (first ≤ 4) × ((second ≤ 4) × (third ≤ 4)) ⌝ }
+    ensures { λ r. ⌜ r ≡ fieldsOf (now (body .entry)) first second third ⌝ }
+{
+    let mut r = Reader::new(body);
+    let crc = r.take(2);
+    let a = r.take(first);
+    let b = r.take(second);
+    let c = r.take(third);
+    let rest = r.at;
+    Fields {
+        crc,
+        first: a,
+        second: b,
+        third: c,
+        rest,
     }
 }
 
@@ -105,10 +135,11 @@ pub struct CrcField {
 pub fn crc_field(body: &[u8]) -> CrcField
     ensures { λ r. ⌜ r ≡ crcOf (now (body .entry)) ⌝ }
 {
-    let mut r = Reader::new(body);
-    let crc = r.take_u16();
-    let rest = r.at;
-    CrcField { crc, rest }
+    let f = take_fields(body, 0, 0, 0);
+    CrcField {
+        crc: f.crc as u16,
+        rest: f.rest,
+    }
 }
 
 pub struct IndexFields {
@@ -120,10 +151,11 @@ pub struct IndexFields {
 pub fn index_fields(body: &[u8]) -> IndexFields
     ensures { λ r. ⌜ r ≡ indexOf (now (body .entry)) ⌝ }
 {
-    let mut r = Reader::new(body);
-    let crc = r.take_u16();
-    let index = r.take_u32();
-    IndexFields { crc, index }
+    let f = take_fields(body, 4, 0, 0);
+    IndexFields {
+        crc: f.crc as u16,
+        index: f.first,
+    }
 }
 
 pub struct OpenFields {
@@ -136,11 +168,12 @@ pub struct OpenFields {
 pub fn open_fields(body: &[u8]) -> OpenFields
     ensures { λ r. ⌜ r ≡ openOf (now (body .entry)) ⌝ }
 {
-    let mut r = Reader::new(body);
-    let crc = r.take_u16();
-    let flags = r.take_u16();
-    let rest = r.at;
-    OpenFields { crc, flags, rest }
+    let f = take_fields(body, 2, 0, 0);
+    OpenFields {
+        crc: f.crc as u16,
+        flags: f.first as u16,
+        rest: f.rest,
+    }
 }
 
 pub struct ReadFields {
@@ -154,16 +187,12 @@ pub struct ReadFields {
 pub fn read_fields(body: &[u8]) -> ReadFields
     ensures { λ r. ⌜ r ≡ readOf (now (body .entry)) ⌝ }
 {
-    let mut r = Reader::new(body);
-    let crc = r.take_u16();
-    let session = r.take_u16();
-    let offset = r.take_u32();
-    let count = r.take_u32();
+    let f = take_fields(body, 2, 4, 4);
     ReadFields {
-        crc,
-        session,
-        offset,
-        count,
+        crc: f.crc as u16,
+        session: f.first as u16,
+        offset: f.second,
+        count: f.third,
     }
 }
 
@@ -178,16 +207,12 @@ pub struct WriteFields {
 pub fn write_fields(body: &[u8]) -> WriteFields
     ensures { λ r. ⌜ r ≡ writeOf (now (body .entry)) ⌝ }
 {
-    let mut r = Reader::new(body);
-    let crc = r.take_u16();
-    let session = r.take_u16();
-    let offset = r.take_u32();
-    let rest = r.at;
+    let f = take_fields(body, 2, 4, 0);
     WriteFields {
-        crc,
-        session,
-        offset,
-        rest,
+        crc: f.crc as u16,
+        session: f.first as u16,
+        offset: f.second,
+        rest: f.rest,
     }
 }
 
@@ -202,16 +227,12 @@ pub struct CommitFields {
 pub fn commit_fields(body: &[u8]) -> CommitFields
     ensures { λ r. ⌜ r ≡ commitOf (now (body .entry)) ⌝ }
 {
-    let mut r = Reader::new(body);
-    let crc = r.take_u16();
-    let session = r.take_u16();
-    let len = r.take_u8();
-    let rest = r.at;
+    let f = take_fields(body, 2, 1, 0);
     CommitFields {
-        crc,
-        session,
-        len,
-        rest,
+        crc: f.crc as u16,
+        session: f.first as u16,
+        len: f.second as u8,
+        rest: f.rest,
     }
 }
 
@@ -224,8 +245,9 @@ pub struct SessionFields {
 pub fn session_fields(body: &[u8]) -> SessionFields
     ensures { λ r. ⌜ r ≡ sessionOf (now (body .entry)) ⌝ }
 {
-    let mut r = Reader::new(body);
-    let crc = r.take_u16();
-    let session = r.take_u16();
-    SessionFields { crc, session }
+    let f = take_fields(body, 2, 0, 0);
+    SessionFields {
+        crc: f.crc as u16,
+        session: f.first as u16,
+    }
 }

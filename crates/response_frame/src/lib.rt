@@ -4,12 +4,14 @@ ghost use Prim.Native.Nat.{_+_, _≤_};
 ghost use lib.ListN.{length};
 ghost use lib.Seq.{paste};
 ghost use Rattle.laws.specs.Bytes.{bytesOf};
+ghost use Rattle.laws.specs.Ranges.{part};
 ghost use Rattle.protocol.specs.Numbers.{headerSize};
 ghost use Rattle.protocol.specs.Decode.{fieldsAt};
 ghost use Rattle.protocol.specs.Frame.{done, reply, header, framed, answerAfter, statFields};
+use protocol::FIELDS_AT;
 
 // Bytes are stored from `at` on; the place behind them.
-pub fn put_at(dst: &mut [u8], at: usize, src: &[u8]) -> usize
+fn put_at(dst: &mut [u8], at: usize, src: &[u8]) -> usize
     requires { ⌜ at + length (now src) ≤ length (now dst) ⌝ }
     ensures { λ r. ⌜ (r ≡ at + length (now (src .entry))) × (now (dst .exit) ≡ paste (now (dst .entry)) at (now (src .entry)) (length (now (src .entry)))) ⌝ }
 {
@@ -46,7 +48,7 @@ pub fn stat_bytes(state: u16, size: u32) -> [u8; 7]
 }
 
 // OEM number and subcommand.
-pub fn header_of(sub: u8) -> [u8; 4]
+fn header_of(sub: u8) -> [u8; 4]
     ensures { λ r. ⌜ r ≡ header sub ⌝ }
 {
     let n = protocol::OEM;
@@ -62,14 +64,24 @@ pub fn respond_empty(sub: u8, answer: &mut [u8]) -> usize
     put_at(answer, 0, &head)
 }
 
+// Fields that stand in their place already get their header and CRC; how long the response is.
+pub fn seal(sub: u8, len: usize, answer: &mut [u8]) -> usize
+    requires { ⌜ fieldsAt + len ≤ length (now answer) ⌝ }
+    ensures { λ r. ⌜ (r ≡ length (framed sub (reply (part fieldsAt len (now (answer .entry)))) .1)) × (now (answer .exit) ≡ answerAfter sub (reply (part fieldsAt len (now (answer .entry)))) (now (answer .entry))) ⌝ }
+{
+    let end = FIELDS_AT + len;
+    let head = header_of(sub);
+    let crc = bytes_of_u16(crc::crc16(&answer[FIELDS_AT..end]));
+    let at = put_at(answer, 0, &head);
+    put_at(answer, at, &crc);
+    end
+}
+
 // A success with fields is written: header, CRC, fields; how long it is.
 pub fn respond_with(sub: u8, fields: &[u8], answer: &mut [u8]) -> usize
     requires { ⌜ fieldsAt + length (now fields) ≤ length (now answer) ⌝ }
     ensures { λ r. ⌜ (r ≡ length (framed sub (reply (now (fields .entry))) .1)) × (now (answer .exit) ≡ answerAfter sub (reply (now (fields .entry))) (now (answer .entry))) ⌝ }
 {
-    let head = header_of(sub);
-    let crc = bytes_of_u16(crc::crc16(fields));
-    let at = put_at(answer, 0, &head);
-    let next = put_at(answer, at, &crc);
-    put_at(answer, next, fields)
+    memory_copy::copy_at(answer, FIELDS_AT, fields);
+    seal(sub, fields.len(), answer)
 }

@@ -1,34 +1,18 @@
 // What a command says becomes a response, at the front of the answer buffer.
 ghost use mathlib.Core.Path.{_≡_};
-ghost use Prim.Native.Nat.{_+_, _≤_};
+ghost use Prim.Native.Nat.{_≤_};
 ghost use lib.ListN.{length};
-ghost use Rattle.laws.specs.Ranges.{part};
-ghost use Rattle.protocol.specs.Decode.{fieldsAt};
 ghost use Rattle.protocol.specs.Numbers.{readMost};
-ghost use Rattle.protocol.specs.Frame.{reply, framed, answerAfter};
+ghost use Rattle.protocol.specs.Frame.{framed, answerAfter};
 ghost use Rattle.state.specs.Lent.{AnswerLent};
 ghost use Rattle.response_types.specs.After.{replyOf, fieldsLength};
 use protocol::Code;
-use protocol::FIELDS_AT;
 use response_types::Said;
 
 // The completion code of a call, and how long its response is.
 pub struct Sent {
     pub code: Code,
     pub len: usize,
-}
-
-// Fields that stand in their place already get their header and CRC; how long the response is.
-fn seal(sub: u8, len: usize, answer: &mut [u8]) -> usize
-    requires { ⌜ fieldsAt + len ≤ length (now answer) ⌝ }
-    ensures { λ r. ⌜ (r ≡ length (framed sub (reply (part fieldsAt len (now (answer .entry)))) .1)) × (now (answer .exit) ≡ answerAfter sub (reply (part fieldsAt len (now (answer .entry)))) (now (answer .entry))) ⌝ }
-{
-    let end = FIELDS_AT + len;
-    let head = response_frame::header_of(sub);
-    let crc = response_frame::bytes_of_u16(crc::crc16(&answer[FIELDS_AT..end]));
-    let at = response_frame::put_at(answer, 0, &head);
-    response_frame::put_at(answer, at, &crc);
-    end
 }
 
 // What a command says becomes the response, at the front of the answer buffer; a refusal leaves the buffer as found.
@@ -65,7 +49,7 @@ pub fn finish(sub: u8, said: Said, answer: &mut [u8]) -> Sent
         }
         Said::Fields { len } => Sent {
             code: Code::SUCCESS,
-            len: seal(sub, len, answer),
+            len: response_frame::seal(sub, len, answer),
         },
     }
 }

@@ -13,7 +13,6 @@ use Rattle.laws.specs.Bytes.{text}
 use Rattle.laws.specs.Masks.{lowest, lowest-clear, ones-more, ones-in}
 use Rattle.protocol.specs.Numbers.{rowCount, slotCount, sixteenBits}
 use Rattle.state.specs.declared.Phase.{Phase}
-use Rattle.state.specs.declared.Phase.the-variants.{Idle, Uploading, Verified}
 use Rattle.state.specs.State.{State}
 use Rattle.state.specs.Soundness.{slotAt}
 use Rattle.rules.specs.Listing.{only, committedNames, flashNames, listed, count}
@@ -37,24 +36,16 @@ committed-count (suc n) s =
     ∙ ap₂ (λ (a b : ℕ). a + b) (committed-count n s) (only-length (bit n (s .store .marks)) (text (slotAt n s .name)) (bit-lt n (s .store .marks)))
     ∙ sym (ones-more n (s .store .marks))
 
--- image, hash and cleanup; verify if not Idle; update if Verified
+-- how many flash names are listed
 abbrev pub flashCount : Phase → ℕ
-flashCount Idle = 3
-flashCount Uploading = 4
-flashCount Verified = 5
-
-pub flash-count : (p : Phase) → length (flashNames p) ≡ flashCount p
-unfolding flashNames flashListed
-flash-count Idle = refl
-flash-count Uploading = refl
-flash-count Verified = refl
+flashCount p = length (flashNames p)
 
 -- COUNT, FROM THE MASK OF COMMITTED SLOTS
 pub count-is : (s : State) → s .store .marks < sixteenBits → count s ≡ suc (ones (s .store .marks) + flashCount (s .flashGroup .phase))
 unfolding listed
 count-is s h =
     ap suc (length-append (committedNames slotCount s) (flashNames (s .flashGroup .phase))
-    ∙ ap₂ (λ (a b : ℕ). a + b) (committed-count slotCount s ∙ ones-in slotCount (s .store .marks) h) (flash-count (s .flashGroup .phase)))
+    ∙ ap (λ (n : ℕ). n + flashCount (s .flashGroup .phase)) (committed-count slotCount s ∙ ones-in slotCount (s .store .marks) h))
 
 -- the bits of the word that code keeps a mask in
 abbrev pub maskBits : ℕ

@@ -13,8 +13,8 @@ use protocol::BlobState;
 use protocol::Code;
 use response_types::Said;
 use state::Status;
+use state::numbers::max_u32;
 use state::row::Entry;
-use state::row::greater;
 use state::row::write_row;
 
 // What a Write comes to: a refusal with its code, or the length after it.
@@ -64,7 +64,7 @@ pub fn write_region(
         return Written::Refused(Code::TOO_LONG);
     }
     copy_at(region, start + offset as usize, bytes);
-    Written::Length(greater(len, end as u32))
+    Written::Length(max_u32(len, end as u32))
 }
 
 // Row r becomes e, if the Write was accepted.

@@ -2,7 +2,7 @@
 ghost use mathlib.Core.Path.{_≡_};
 ghost use mathlib.Core.Bool.{cond};
 ghost use mathlib.Core.List.{List};
-ghost use Prim.Native.Nat.{ℕ, _+_, _*_, _-_, _≤_, _<_, min};
+ghost use Prim.Native.Nat.{ℕ, _+_, _*_, _≤_, _<_};
 ghost use lib.Dec.{eqb};
 ghost use lib.ListN.{length, getD};
 ghost use Rattle.laws.specs.Ranges.{part};
@@ -33,6 +33,8 @@ use state::SLOT_SIZE;
 use state::mask::clear_bit;
 use state::mask::has;
 use state::mask::set_bit;
+use state::numbers::min_u32;
+use state::numbers::saturating_sub_u32;
 use state::row::Entry;
 use state::row::clear_row;
 use state::row::write_row;
@@ -153,24 +155,14 @@ pub fn close(
     }
 }
 
-fn least(a: u32, b: u32) -> u32
-    ensures { λ x. ⌜ x ≡ min a b ⌝ }
-{
-    if a < b { a } else { b }
-}
-
-// The difference, or 0.
-fn beyond(a: u32, b: u32) -> u32
-    ensures { λ x. ⌜ x ≡ a - b ⌝ }
-{
-    if b < a { a - b } else { 0 }
-}
-
 // How many bytes a Read shows.
 fn read_count(requested: u32, offset: u32, len: u32) -> u32
     ensures { λ x. ⌜ x ≡ readCount requested offset len ⌝ }
 {
-    least(requested, least(READ_MOST, beyond(len, offset)))
+    min_u32(
+        requested,
+        min_u32(READ_MOST, saturating_sub_u32(len, offset)),
+    )
 }
 
 // The length that a session of slot k sees: the staged one if it writes, else the committed one.
@@ -218,7 +210,7 @@ pub fn read<'a>(
     let k = e.blob as usize;
     let len = seen_length(control, k, writing);
     let n = read_count(count, offset, len) as usize;
-    let from = least(offset, len) as usize;
+    let from = min_u32(offset, len) as usize;
     let shown = source(committed, staged, writing, k * SLOT_SIZE + from, n);
     copy_at(answer, FIELDS_AT, shown);
     write_row(table, r, e.lifted(clock));

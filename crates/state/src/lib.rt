@@ -3,6 +3,7 @@ ghost use mathlib.Core.Path.{_≡_};
 ghost use Rattle.state.specs.Soundness.{isIdle, isUploading, isVerified};
 
 pub mod mask;
+pub mod numbers;
 pub mod row;
 pub mod values;
 

@@ -1,6 +1,6 @@
 // Rows of the session table: four words each, read and written whole.
 ghost use mathlib.Core.Path.{_≡_};
-ghost use Prim.Native.Nat.{_*_, _<_, max};
+ghost use Prim.Native.Nat.{_*_, _<_};
 ghost use lib.Dec.{eqb};
 ghost use Rattle.laws.specs.Ranges.{block};
 ghost use Rattle.protocol.specs.Names.{kindOf};
@@ -12,6 +12,7 @@ use crate::CLEAN_UNIT;
 use crate::ROW_WORDS;
 use crate::STATUS_UNIT;
 use crate::Status;
+use crate::numbers::max_u32;
 use protocol::Flags;
 use protocol::FlashKind;
 
@@ -72,7 +73,7 @@ impl Entry {
             id: self.id,
             blob: self.blob,
             word: self.word,
-            stamp: greater(self.stamp, clock),
+            stamp: max_u32(self.stamp, clock),
         }
     }
 
@@ -130,13 +131,6 @@ pub fn word_with(flags: u32, status: u32, clean: u32) -> u32
     ensures { λ x. ⌜ x ≡ wordWith flags status clean ⌝ }
 {
     flags + status * STATUS_UNIT + clean * CLEAN_UNIT
-}
-
-// The greater of two numbers.
-pub fn greater(a: u32, b: u32) -> u32
-    ensures { λ x. ⌜ x ≡ max a b ⌝ }
-{
-    if a < b { b } else { a }
 }
 
 // The flash name of a blob number that is no slot's. A number above cleanup's is taken for cleanup; no sound row has one.

@@ -4,13 +4,6 @@ use borrow.Author.Needs.{needs}
 use Rattle.capi_control.proofs.control_of.Statement.{statement}
 use Rattle.capi_control.proofs.control_of.Tie as tie
 
--- the places that the answers read
-abbrev at-lengths-at2 : tie.After-shared-slice-known9 → tie.After-lengths-at2
-at-lengths-at2 c = c .before .before .before .before .before .before .before .before .before
-
-abbrev at-phase-of : tie.After-shared-slice-known9 → tie.After-phase-of
-at-phase-of c = c .before .before .before .before .before .before .before
-
 lengths-at-requires : tie.Need-lengths-at-requires
 lengths-at-requires c κs = search needs
 
@@ -46,7 +39,7 @@ shared-slice-read-t19 c = search needs
 
 returns : tie.Need-returns
 unfolding controlOf
-returns c = rw (at-phase-of c .phase-of .ensures, at-lengths-at2 c .lengths-at2 .ensures, at-lengths-at2 c .before .lengths-at .ensures)
+returns c = cc
 
 pub control-of-spec : {M : Type 1} → statement M
 control-of-spec =

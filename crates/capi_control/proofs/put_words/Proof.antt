@@ -1,26 +1,24 @@
 -- `put_words`: the words so far are the paste of what was passed.
-use mathlib.Core.Path.{_≡_, refl, _∙_}
-use Prim.Native.Nat.{_-_, _≤_}
+use mathlib.Core.Path.{refl}
+use Prim.Native.Nat.{_-_}
 use native.Mathlib.Omega.{arith}
-use lib.ListN.{length, getD, length-set}
-use lib.Seq.{paste, paste-zero}
+use lib.ListN.{length, getD}
 use borrow.Author.Needs.{needs}
-use Rattle.memory_copy.specs.Laws.{stored-more, stored-all}
+use Rattle.memory_copy.specs.Laws.{Stored, stored-none, stored-more, stored-all}
 use Rattle.capi_control.proofs.put_words.Statement.{statement}
 use Rattle.capi_control.proofs.put_words.Tie as tie
 
 abbrev Inv-loop : tie.InvT-loop
-Inv-loop words₀ at src i₀ words i = (i ≤ length src) × ((length words ≡ length words₀) × (words ≡ paste words₀ at src i))
+Inv-loop words₀ at src i₀ words i = Stored words₀ at src i words
 
 abbrev μ-loop : tie.MeasureT-loop
 μ-loop words₀ at src i₀ words i = length src - i
 
--- the places that the answers read
-abbrev entry : tie.After-shared-slice-known Inv-loop μ-loop → tie.Start Inv-loop μ-loop
-entry c = c .before .before .before
+abbrev entry : tie.At-loop Inv-loop μ-loop → tie.Start Inv-loop μ-loop
+entry c = c .before
 
 loop-holds : tie.Need-loop-holds Inv-loop μ-loop
-loop-holds c = (omega arith, (refl, paste-zero (c .args .words .now) (c .args .at) (c .args .src .now)))
+loop-holds c = stored-none (c .args .words .now) (c .args .at) (c .args .src .now)
 
 mul-words : tie.Need-mul-words Inv-loop μ-loop
 mul-words c = search needs
@@ -46,21 +44,17 @@ loop-less c = omega arith
 loop-again : tie.Need-loop-again Inv-loop μ-loop
 loop-again c =
     let l = c .before .before .loop in
-    let a = entry c .args in (
-      omega arith,
-      (
-        length-set (l .words) _ _ ∙ l .inv .1 .0,
-        stored-more (a .words .now) (a .at) (a .src .now) (l .i) (getD (a .src .now) (l .i) 0) (l .words) (entry c .pre) (omega arith) refl (l .inv .1 .1),
-      ),
-    )
+    let a = entry (c .before .before) .args in
+    stored-more (a .words .now) (a .at) (a .src .now) (entry (c .before .before) .pre) (l .i) (getD (a .src .now) (l .i) 0) (l .words) (omega arith) refl (l .inv)
 
 same-length : tie.Need-same-length Inv-loop μ-loop
-same-length c = c .before .loop .inv .1 .0
+same-length c = c .before .loop .inv .long
 
 returns : tie.Need-returns Inv-loop μ-loop
 returns c =
-    let a = c .before .before .args in
-    stored-all (a .words .now) (a .at) (a .src .now) (c .before .loop .i) (c .before .loop .words) (c .before .before .pre) (omega arith) (c .before .loop .inv .1 .1)
+    let l = c .before .loop in
+    let a = entry (c .before) .args in
+    stored-all (a .words .now) (a .at) (a .src .now) (entry (c .before) .pre) (l .i) (l .words) (omega arith) (l .inv)
 
 pub put-words-spec : {M : Type 1} → statement M
 put-words-spec =

@@ -1,21 +1,19 @@
 -- `clear_at`: the buffer so far is the paste of zeros.
-use mathlib.Core.Path.{_≡_, refl, _∙_}
-use Prim.Native.Nat.{ℕ, _-_, _≤_}
+use Prim.Native.Nat.{ℕ, _-_}
 use native.Mathlib.Omega.{arith}
-use lib.ListN.{length, replicate, getD-replicate, length-replicate, length-set}
-use lib.Seq.{paste, paste-zero}
-use Rattle.memory_copy.specs.Laws.{stored-more, stored-all}
+use lib.ListN.{replicate, getD-replicate, length-replicate}
+use Rattle.memory_copy.specs.Laws.{Stored, stored-none, stored-more, stored-all}
 use Rattle.memory_copy.proofs.clear_at.Statement.{statement}
 use Rattle.memory_copy.proofs.clear_at.Tie as tie
 
 abbrev Inv-loop : tie.InvT-loop
-Inv-loop dst₀ at n i₀ dst i = (i ≤ n) × ((length dst ≡ length dst₀) × (dst ≡ paste dst₀ at (replicate n 0) i))
+Inv-loop dst₀ at n i₀ dst i = Stored dst₀ at (replicate n 0) i dst
 
 abbrev μ-loop : tie.MeasureT-loop
 μ-loop dst₀ at n i₀ dst i = n - i
 
 loop-holds : tie.Need-loop-holds Inv-loop μ-loop
-loop-holds c = (omega arith, (refl, paste-zero (c .args .dst .now) (c .args .at) (replicate (c .args .n) 0)))
+loop-holds c = stored-none (c .args .dst .now) (c .args .at) (replicate (c .args .n) 0)
 
 add-dst : tie.Need-add-dst Inv-loop μ-loop
 add-dst c = omega arith
@@ -33,22 +31,18 @@ loop-again : tie.Need-loop-again Inv-loop μ-loop
 loop-again c =
     let l = c .before .loop in
     let a = c .before .before .args in
-    let e = length-replicate {A = ℕ} (a .n) 0 in (
-      omega arith,
-      (
-        length-set (l .dst) _ _ ∙ l .inv .1 .0,
-        stored-more (a .dst .now) (a .at) (replicate (a .n) 0) (l .i) 0 (l .dst) (omega arith) (omega arith) (getD-replicate (a .n) (l .i) 0 0 (omega arith)) (l .inv .1 .1),
-      ),
-    )
+    let e = length-replicate {A = ℕ} (a .n) 0 in
+    stored-more (a .dst .now) (a .at) (replicate (a .n) 0) (omega arith) (l .i) 0 (l .dst) (omega arith) (getD-replicate (a .n) (l .i) 0 0 (omega arith)) (l .inv)
 
 same-length : tie.Need-same-length Inv-loop μ-loop
-same-length c = c .before .loop .inv .1 .0
+same-length c = c .before .loop .inv .long
 
 returns : tie.Need-returns Inv-loop μ-loop
 returns c =
+    let l = c .before .loop in
     let a = c .before .before .args in
     let e = length-replicate {A = ℕ} (a .n) 0 in
-    stored-all (a .dst .now) (a .at) (replicate (a .n) 0) (c .before .loop .i) (c .before .loop .dst) (omega arith) (omega arith) (c .before .loop .inv .1 .1)
+    stored-all (a .dst .now) (a .at) (replicate (a .n) 0) (omega arith) (l .i) (l .dst) (omega arith) (l .inv)
 
 pub clear-at-spec : {M : Type 1} → statement M
 clear-at-spec =

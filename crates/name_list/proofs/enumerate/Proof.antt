@@ -14,7 +14,7 @@ use Rattle.name_list.proofs.enumerate.Tie as tie
 abbrev entry : tie.After-listed-at → tie.Start
 entry c = c .before .before .before
 
-abbrev entry₂ : tie.After-lay-arg2 → tie.Start
+abbrev entry₂ : tie.After-lay-arg → tie.Start
 entry₂ c = c .before .before .before .before .before .before .before
 
 abbrev entry₃ : tie.After-lay-flash-arg → tie.Start

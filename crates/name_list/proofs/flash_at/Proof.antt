@@ -1,66 +1,96 @@
--- `flash_at`: a number before the last one, the last one, or past it.
-use mathlib.Core.Path.{_≡_, ap}
+-- `flash_at`: the name sought is number `left` of those that are left.
+use mathlib.Core.Path.{_≡_, sym, _∙_, ap}
+use mathlib.Core.Logic.{⊎-elim}
+use Prim.Native.Nat.{ℕ, _+_, _-_}
 use native.Mathlib.Omega.{arith}
-use mathlib.Core.Bool.{true, false}
-use Prim.Native.Nat.{_-_}
-use lib.Dec.{eqb, ltb}
-use borrow.Author.Tests.{eq-eqb, ne-eqb, lt-ltb, le-ltb}
-use Rattle.rules.specs.Counting.{flashCount}
+use Rattle.protocol.specs.Names.{kindOf}
+use Rattle.protocol.specs.declared.FlashKind.{FlashKind}
+use Rattle.name_list.specs.Listed.{behind, flashFrom, flashAt}
 use Rattle.name_list.specs.declared.Listed.the-variants.{Flash}
-use Rattle.name_list.specs.Laws.{one-listed, few-listed}
+use Rattle.name_list.specs.Laws.{at-first, at-shown, at-hidden, outside}
 use borrow.Author.Needs.{needs}
 use Rattle.name_list.proofs.flash_at.Statement.{statement}
+use Rattle.rules.specs.Opening.{flashListed}
 use Rattle.name_list.proofs.flash_at.Tie as tie
 
--- the places that the answers read
-abbrev entry : tie.After-kind-of → tie.Start
+abbrev Inv-loop : tie.InvT-loop
+Inv-loop phase i last left₀ blob₀ left blob = flashAt phase i ≡ flashFrom (behind blob) blob phase left
+
+abbrev μ-loop : tie.MeasureT-loop
+μ-loop phase i last left₀ blob₀ left blob = last + 1 - blob
+
+abbrev entry : tie.At-loop Inv-loop μ-loop → tie.Start Inv-loop μ-loop
 entry c = c .before .before .before
 
-abbrev entry₂ : tie.Else1 → tie.Start
-entry₂ c = c .before .before
+abbrev turn : tie.After-flash-listed Inv-loop μ-loop → tie.At-loop Inv-loop μ-loop
+turn c = c .before .before .before
 
-flash-count-requires : tie.Need-flash-count-requires
-flash-count-requires c κs = search needs
+abbrev at-listed : tie.Then2 Inv-loop μ-loop → tie.After-flash-listed Inv-loop μ-loop
+at-listed c = c .before .before
 
-sub-last : tie.Need-sub-last
-sub-last c = omega (arith, c .flash-count .ensures, one-listed (c .before .args .phase))
+-- whether the blob is listed
+is-listed : (c : tie.After-flash-listed Inv-loop μ-loop) → flashListed (kindOf (turn c .loop .blob)) (entry (turn c) .args .phase) ≡ c .flash-listed .result
+is-listed c = ap (λ (k : FlashKind). flashListed k (entry (turn c) .args .phase)) (sym (c .before .kind-of .ensures)) ∙ sym (c .flash-listed .ensures)
 
-cast-kind-of : tie.Need-cast-kind-of
-cast-kind-of c = search needs
+number-requires : tie.Need-number-requires Inv-loop μ-loop
+number-requires c κs = search needs
 
-add-kind-of : tie.Need-add-kind-of
-add-kind-of c = omega (arith, c .before .flash-count .ensures, few-listed (c .before .before .args .phase), c .if1 .taken)
+number-requires-2 : tie.Need-number-requires-2 Inv-loop μ-loop
+number-requires-2 c κs = search needs
 
-kind-of-requires : tie.Need-kind-of-requires
+loop-holds : tie.Need-loop-holds Inv-loop μ-loop
+loop-holds c = ap (λ (b : ℕ). flashFrom (behind b) b (c .before .before .args .phase) (c .before .before .args .i)) (sym (c .number2 .ensures))
+
+kind-of-requires : tie.Need-kind-of-requires Inv-loop μ-loop
 kind-of-requires c κs = search needs
 
-returns : tie.Need-returns
-returns c = let a = entry c .args in
-    let e : ltb (a .i) (flashCount (a .phase) - 1) ≡ true = lt-ltb (a .i) (flashCount (a .phase) - 1) (omega (arith, c .before .if1 .taken, c .before .before .flash-count .ensures)) in
-    rw e (ap Flash (c .kind-of .ensures))
+flash-listed-requires : tie.Need-flash-listed-requires Inv-loop μ-loop
+flash-listed-requires c κs = search needs
 
-returns-2 : tie.Need-returns-2
-returns-2 c = let a = entry₂ (c .before) .args in
-    let e : ltb (a .i) (flashCount (a .phase) - 1) ≡ false = le-ltb (a .i) (flashCount (a .phase) - 1) (omega (arith, c .before .if1 .left, c .before .before .flash-count .ensures)) in
-    let f : eqb (a .i) (flashCount (a .phase) - 1) ≡ true = eq-eqb (a .i) (flashCount (a .phase) - 1) (omega (arith, c .if2 .taken, c .before .before .flash-count .ensures)) in
-    rw (e, f)
+returns : tie.Need-returns Inv-loop μ-loop
+returns c =
+    let l = turn (at-listed c) in
+    sym (l .loop .inv ∙ at-first (entry l .args .phase) (l .loop .blob) (omega arith) (l .loop .left) (is-listed (at-listed c) ∙ c .before .if1 .taken) (c .if2 .taken)
+    ∙ ap Flash (sym (at-listed c .before .kind-of .ensures)))
 
-returns-3 : tie.Need-returns-3
-returns-3 c = let a = entry₂ (c .before) .args in
-    let e : ltb (a .i) (flashCount (a .phase) - 1) ≡ false = le-ltb (a .i) (flashCount (a .phase) - 1) (omega (arith, c .before .if1 .left, c .before .before .flash-count .ensures)) in
-    let f : eqb (a .i) (flashCount (a .phase) - 1) ≡ false = ne-eqb (a .i) (flashCount (a .phase) - 1)
-    (λ (q : a .i ≡ flashCount (a .phase) - 1). c .if2 .left (omega (arith, q, c .before .before .flash-count .ensures))) in
-    rw (e, f)
+sub-left : tie.Need-sub-left Inv-loop μ-loop
+sub-left c = search needs
+
+add-blob : tie.Need-add-blob Inv-loop μ-loop
+add-blob c = search needs
+
+loop-less : tie.Need-loop-less Inv-loop μ-loop
+loop-less c = search needs
+
+loop-again : tie.Need-loop-again Inv-loop μ-loop
+loop-again c =
+    let l = turn (c .before) in
+    let b = l .loop .blob in
+    let p = entry l .args .phase in
+    let e = is-listed (c .before) in
+    let rest = flashFrom (behind (b + 1)) (b + 1) p in
+    ⊎-elim
+    (λ w. l .loop .inv ∙ at-shown p b (omega arith) (l .loop .left) (e ∙ w .0 .taken) (w .1 .left) ∙ ap rest (sym (w .2)))
+    (λ w. l .loop .inv ∙ at-hidden p b (omega arith) (l .loop .left) (e ∙ w .0 .left) ∙ ap rest (sym (w .1)))
+    (c .if1 .came)
+
+returns-2 : tie.Need-returns-2 Inv-loop μ-loop
+returns-2 c = sym (c .before .loop .inv ∙ outside (entry (c .before) .args .phase) (c .before .loop .blob) (c .before .loop .left) (omega arith))
 
 pub flash-at-spec : {M : Type 1} → statement M
 flash-at-spec =
     tie.close
     (tie.spec
-    flash-count-requires
-    sub-last
-    cast-kind-of
-    add-kind-of
+    Inv-loop
+    μ-loop
+    number-requires
+    number-requires-2
+    loop-holds
     kind-of-requires
+    flash-listed-requires
     returns
-    returns-2
-    returns-3)
+    sub-left
+    add-blob
+    loop-less
+    loop-again
+    returns-2)

@@ -7,19 +7,19 @@ use Rattle.name_list.proofs.lay_flash.Statement.{statement}
 use Rattle.name_list.proofs.lay_flash.Tie as tie
 
 -- the places that the answers read
-abbrev entry : tie.After-lay-arg2 → tie.Start
+abbrev entry : tie.After-lay-arg → tie.Start
 entry c = c .before .before .before .before .before
 
-abbrev entry₂ : tie.After-lay-arg4 → tie.Start
+abbrev entry₂ : tie.After-lay-arg2 → tie.Start
 entry₂ c = c .before .before .before .before .before
 
-abbrev entry₃ : tie.After-lay-arg6 → tie.Start
+abbrev entry₃ : tie.After-lay-arg3 → tie.Start
 entry₃ c = c .before .before .before .before .before
 
-abbrev entry₄ : tie.After-lay-arg8 → tie.Start
+abbrev entry₄ : tie.After-lay-arg4 → tie.Start
 entry₄ c = c .before .before .before .before .before
 
-abbrev entry₅ : tie.After-lay-arg10 → tie.Start
+abbrev entry₅ : tie.After-lay-arg5 → tie.Start
 entry₅ c = c .before .before .before .before .before
 
 abbrev at-enum-told : tie.After-slice-known2 → tie.After-enum-told

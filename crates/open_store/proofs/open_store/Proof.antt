@@ -56,6 +56,9 @@ at-if1₂ c = c .before .before .before .before .before .before
 abbrev at-find-name₃ : tie.Then2 → tie.After-find-name
 at-find-name₃ c = c .before .before .before .before
 
+abbrev at-told : tie.Then2 → tie.After-enum-told
+at-told c = c .before .before
+
 abbrev entry₅ : tie.After-open-new-arg2 → tie.Start
 entry₅ c =
     c .before .before .before .before .before .before .before .before .before .before .before .before .before .before
@@ -127,6 +130,9 @@ returns-2 c =
 enum-told : tie.Need-enum-told
 enum-told c = search needs
 
+writes-with-requires : tie.Need-writes-with-requires
+writes-with-requires c κs = search needs
+
 same-length-5 : tie.Need-same-length-5
 same-length-5 c = search needs
 
@@ -135,7 +141,7 @@ returns-3 c =
     λ i h _.
     let a = entry₄ c .args in
     let s = stateOf (a .control) (a .table .now) (a .names .now) (a .committed .now) (a .staged .now) i h in
-    name-absent (part (a .start) (a .len) (a .message .now)) (a .flags) (a .clock) s (sym (at-store-flags₂ c .store-flags .ensures) ∙ not-false _ (at-if1₂ c .if1 .left)) (slot-in s (at-find-name₃ c .find-name .ensures) (c .before .before .enum-told .given .1)) (c .if2 .taken)
+    name-absent (part (a .start) (a .len) (a .message .now)) (a .flags) (a .clock) s (sym (at-store-flags₂ c .store-flags .ensures) ∙ not-false _ (at-if1₂ c .if1 .left)) (slot-in s (at-find-name₃ c .find-name .ensures) (at-told c .enum-told .given .1)) (sym (c .before .writes-with .ensures) ∙ not-true _ (c .if2 .taken))
 
 open-new-requires : tie.Need-open-new-requires
 open-new-requires c κs = let p = entry₅ c .pre in (p .0, (p .1 .0, (p .1 .1 .0, p .1 .1 .1 .0)))
@@ -152,7 +158,7 @@ returns-4 c =
     let a = entry₆ c .args in
     let s = stateOf (a .control) (a .table .now) (a .names .now) (a .committed .now) (a .staged .now) i h in
     at-open-new c .open-new .ensures (a .committed .now) (a .staged .now) i h x (entry₆ c .pre .1 .1 .1 .1 .1 .1)
-    ∙ name-new (part (a .start) (a .len) (a .message .now)) (a .flags) (a .clock) s (sym (at-store-flags₃ c .store-flags .ensures) ∙ not-false _ (at-if1₃ c .if1 .left)) (slot-in s (at-find-name₄ c .find-name .ensures) (at-enum-told c .enum-told .given .1)) (at-if2 c .if2 .left)
+    ∙ name-new (part (a .start) (a .len) (a .message .now)) (a .flags) (a .clock) s (sym (at-store-flags₃ c .store-flags .ensures) ∙ not-false _ (at-if1₃ c .if1 .left)) (slot-in s (at-find-name₄ c .find-name .ensures) (at-enum-told c .enum-told .given .1)) (sym (at-if2 c .before .writes-with .ensures) ∙ not-false _ (at-if2 c .if2 .left))
 
 pub open-store-spec : {M : Type 1} → statement M
 open-store-spec =
@@ -169,6 +175,7 @@ open-store-spec =
     same-length-4
     returns-2
     enum-told
+    writes-with-requires
     same-length-5
     returns-3
     open-new-requires

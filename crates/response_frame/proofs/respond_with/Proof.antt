@@ -1,71 +1,29 @@
--- `response_frame::respond_with` meets its contract: three parts, one behind the other. Assumes nothing.
-use mathlib.Core.Path.{_∙_, ap}
-use Rattle.laws.specs.Bytes.{bytesOf}
-use Rattle.response_frame.proofs.Laid.{with-is}
+-- `response_frame::respond_with` meets its contract: the fields copied to their place, then header and CRC before them. Assumes nothing.
 use borrow.Author.Needs.{needs}
+use Rattle.response_frame.proofs.Laid.{with-is}
 use Rattle.response_frame.proofs.respond_with.Statement.{statement}
 use Rattle.response_frame.proofs.respond_with.Tie as tie
 
--- the places that the answers read
-abbrev at-header-of : tie.After-slice-known4 → tie.After-header-of
-at-header-of c =
-    c .before .before .before .before .before .before .before .before .before .before .before .before .before .before
-    .before .before
+abbrev start : tie.After-slice-known3 → tie.Start
+start c = c .before .before .before .before .before .before .before .before .before .before
 
-abbrev at-bytes-of-u16 : tie.After-slice-known4 → tie.After-bytes-of-u16
-at-bytes-of-u16 c = c .before .before .before .before .before .before .before .before .before .before .before .before .before .before
+abbrev at-copy : tie.After-slice-known3 → tie.After-copy-at
+at-copy c = c .before .before .before .before .before .before
 
-abbrev at-put-at : tie.After-slice-known4 → tie.After-put-at
-at-put-at c = c .before .before .before .before .before .before .before .before .before .before .before
+abbrev at-seal : tie.After-slice-known3 → tie.After-seal
+at-seal c = c .before .before
 
-abbrev at-put-at2 : tie.After-slice-known4 → tie.After-put-at2
-at-put-at2 c = c .before .before .before .before .before .before
+copy-at-requires : tie.Need-copy-at-requires
+copy-at-requires c κs = search needs
 
-header-of-requires : tie.Need-header-of-requires
-header-of-requires c κs = search needs
-
-crc16-requires : tie.Need-crc16-requires
-crc16-requires c κs = search needs
-
-bytes-of-u16-requires : tie.Need-bytes-of-u16-requires
-bytes-of-u16-requires c κs = search needs
-
-slice-aggregate-put-at : tie.Need-slice-aggregate-put-at
-slice-aggregate-put-at c = search needs
-
-put-at-requires : tie.Need-put-at-requires
-put-at-requires c κs = search needs
-
-slice-aggregate-put-at-2 : tie.Need-slice-aggregate-put-at-2
-slice-aggregate-put-at-2 c = search needs
-
-put-at-requires-2 : tie.Need-put-at-requires-2
-put-at-requires-2 c κs = search needs
-
-put-at-requires-3 : tie.Need-put-at-requires-3
-put-at-requires-3 c κs = search needs
+seal-requires : tie.Need-seal-requires
+seal-requires c κs = search needs
 
 same-length : tie.Need-same-length
 same-length c = search needs
 
 returns : tie.Need-returns
-returns c =
-    let whole =
-    with-is _ _ _ _ _ _ _ _ _ _ (at-header-of c .header-of .ensures) (at-bytes-of-u16 c .bytes-of-u16 .ensures ∙ ap (bytesOf 2) (at-bytes-of-u16 c .before .crc16 .ensures))
-    (at-put-at c .put-at .ensures .1) (at-put-at c .put-at .ensures .0) (at-put-at2 c .put-at2 .ensures .1) (at-put-at2 c .put-at2 .ensures .0) (c .before .before .put-at3 .ensures .1) in
-    (c .before .before .put-at3 .ensures .0 ∙ whole .0, whole .1)
+returns c = with-is _ _ _ _ _ _ (start c .pre) (at-copy c .copy-at .ensures) (at-seal c .seal .ensures)
 
 pub respond-with-spec : {M : Type 1} → statement M
-respond-with-spec =
-    tie.close
-    (tie.spec
-    header-of-requires
-    crc16-requires
-    bytes-of-u16-requires
-    slice-aggregate-put-at
-    put-at-requires
-    slice-aggregate-put-at-2
-    put-at-requires-2
-    put-at-requires-3
-    same-length
-    returns)
+respond-with-spec = tie.close (tie.spec copy-at-requires seal-requires same-length returns)

@@ -5,13 +5,6 @@ use borrow.Author.Needs.{needs}
 use Rattle.session_row.proofs.write_region.Statement.{statement}
 use Rattle.session_row.proofs.write_region.Tie as tie
 
--- the places that the answers read
-abbrev in-else2 : tie.After-greater → tie.Else2
-in-else2 c = c .before .before .before .before .before
-
-abbrev at-copy-at : tie.After-greater → tie.After-copy-at
-at-copy-at c = c .before .before .before
-
 returns : tie.Need-returns
 returns c = (rw (lt-leb _ _ (c .if1 .taken)), refl)
 
@@ -27,17 +20,17 @@ add-copy-at c = search needs
 copy-at-requires : tie.Need-copy-at-requires
 copy-at-requires c κs = search needs
 
-cast-greater : tie.Need-cast-greater
-cast-greater c = search needs
+cast-max-u32 : tie.Need-cast-max-u32
+cast-max-u32 c = search needs
 
-greater-requires : tie.Need-greater-requires
-greater-requires c κs = search needs
+max-u32-requires : tie.Need-max-u32-requires
+max-u32-requires c κs = search needs
 
 same-length : tie.Need-same-length
 same-length c = search needs
 
 returns-3 : tie.Need-returns-3
-returns-3 c = (rw (le-leb _ _ (in-else2 c .before .if1 .left), le-leb _ _ (in-else2 c .if2 .left), c .greater .ensures), at-copy-at c .copy-at .ensures)
+returns-3 c = (rw (le-leb _ _ (c .before .before .before .before .before .before .if1 .left), le-leb _ _ (c .before .before .before .before .before .if2 .left), c .max-u32 .ensures), c .before .before .before .copy-at .ensures)
 
 pub write-region-spec : {M : Type 1} → statement M
 write-region-spec =
@@ -48,7 +41,7 @@ write-region-spec =
     returns-2
     add-copy-at
     copy-at-requires
-    cast-greater
-    greater-requires
+    cast-max-u32
+    max-u32-requires
     same-length
     returns-3)

@@ -9,27 +9,18 @@ use Rattle.state.specs.declared.row.Entry.{Entry}
 use Rattle.state.specs.Entry.{wordsOf, lifted}
 use Rattle.session_store.proofs.Laws.{read-is}
 use lib.ListN.{length, getD}
-use Rattle.session_store.proofs.Shown.{shown, seen}
+use Rattle.session_store.proofs.Shown.{Shown, shown, seen}
 use native.Mathlib.Omega.{arith}
 use borrow.Author.Needs.{needs}
 use Rattle.session_store.proofs.read.Statement.{statement}
 use Rattle.session_store.proofs.read.Tie as tie
 
 -- the places that the answers read
-abbrev entry : tie.After-least → tie.Start
+abbrev entry : tie.After-min-u32 → tie.Start
 entry c = c .before .before .before .before .before .before .before .before .before
 
-abbrev at-writes : tie.After-least → tie.After-writes
+abbrev at-writes : tie.After-min-u32 → tie.After-writes
 at-writes c = c .before .before .before .before
-
-abbrev at-seen-length : tie.After-least → tie.After-seen-length
-at-seen-length c = c .before .before
-
-abbrev at-read-count : tie.After-copy-at-arg → tie.After-read-count
-at-read-count c = c .before .before .before
-
-abbrev at-least : tie.After-slice-known4 → tie.After-least
-at-least c = c .before .before .before .before .before .before .before .before .before .before
 
 abbrev at-source : tie.After-slice-known4 → tie.After-source
 at-source c = c .before .before .before .before .before .before .before .before .before
@@ -39,6 +30,24 @@ at-copy-at c = c .before .before .before .before .before .before .before
 
 abbrev at-lifted : tie.After-slice-known4 → tie.After-lifted
 at-lifted c = c .before .before .before
+
+-- the lengths of the slot
+abbrev stagedLen : tie.Start → ℕ
+stagedLen c = getD (c .args .control .«staged_len») (c .args .e .blob) 0
+
+abbrev committedLen : tie.Start → ℕ
+committedLen c = getD (c .args .control .«committed_len») (c .args .e .blob) 0
+
+-- what is shown lies in the slices
+lies : (c : tie.After-min-u32)
+    → Shown (entry c .args .e .blob) (c .before .before .seen-length .result) (c .min-u32 .result) (c .before .read-count .result) (at-writes c .writes .result)
+    (entry c .args .committed .now) (entry c .args .staged .now)
+lies c =
+    let start = entry c in
+    let a = start .args in
+    shown (a .e .blob) (a .count) (a .offset) (c .before .before .seen-length .result) (stagedLen start) (committedLen start) (c .min-u32 .result) (c .before .read-count .result)
+    (at-writes c .writes .result) (a .committed .now) (a .staged .now) (start .pre .1 .0) (start .pre .1 .1 .0) (start .pre .1 .1 .1 .0) (c .before .before .seen-length .ensures)
+    (start .pre .1 .1 .1 .1 .1 .0) (start .pre .1 .1 .1 .1 .1 .1) (c .before .read-count .ensures) (c .min-u32 .ensures)
 
 writes-requires : tie.Need-writes-requires
 writes-requires c κs = search needs
@@ -55,8 +64,8 @@ read-count-requires c κs = search needs
 cast-n : tie.Need-cast-n
 cast-n c = search needs
 
-least-requires : tie.Need-least-requires
-least-requires c κs = search needs
+min-u32-requires : tie.Need-min-u32-requires
+min-u32-requires c κs = search needs
 
 cast-from : tie.Need-cast-from
 cast-from c = search needs
@@ -68,23 +77,11 @@ add-source : tie.Need-add-source
 add-source c = search needs
 
 source-requires : tie.Need-source-requires
-source-requires c κs =
-    let start = entry c in
-    let a = start .args in
-    let y = shown (a .e .blob) (a .count) (a .offset) (c .before .before .seen-length .result) (getD (a .control .«staged_len») (a .e .blob) 0)
-    (getD (a .control .«committed_len») (a .e .blob) 0) (c .least .result) (c .before .read-count .result) (at-writes c .writes .result) (a .committed .now) (a .staged .now)
-    (start .pre .1 .0) (start .pre .1 .1 .0) (start .pre .1 .1 .1 .0) (c .before .before .seen-length .ensures) (start .pre .1 .1 .1 .1 .1 .0) (start .pre .1 .1 .1 .1 .1 .1)
-    (c .before .read-count .ensures) (c .least .ensures) in
-    (y .in-committed, y .in-staged)
+source-requires c κs = (lies c .in-committed, lies c .in-staged)
 
 copy-at-requires : tie.Need-copy-at-requires
 copy-at-requires c κs =
-    let a = entry (c .before .before) .args in
-    let y = shown (a .e .blob) (a .count) (a .offset) (at-seen-length (c .before .before) .seen-length .result) (getD (a .control .«staged_len») (a .e .blob) 0)
-    (getD (a .control .«committed_len») (a .e .blob) 0) (c .before .before .least .result) (at-read-count c .read-count .result) (at-writes (c .before .before) .writes .result)
-    (a .committed .now) (a .staged .now) (entry (c .before .before) .pre .1 .0) (entry (c .before .before) .pre .1 .1 .0) (entry (c .before .before) .pre .1 .1 .1 .0)
-    (at-seen-length (c .before .before) .seen-length .ensures) (entry (c .before .before) .pre .1 .1 .1 .1 .1 .0) (entry (c .before .before) .pre .1 .1 .1 .1 .1 .1)
-    (at-read-count c .read-count .ensures) (c .before .before .least .ensures) in
+    let y = lies (c .before .before) in
     let l = ap length (c .before .source .ensures) ∙ y .long in
     omega (arith, l, y .most, entry (c .before .before) .pre .1 .1 .1 .1 .0)
 
@@ -102,21 +99,18 @@ same-length-2 c = search needs
 
 returns : tie.Need-returns
 returns c =
-    let a = entry (at-least c) .args in
-    let y = shown (a .e .blob) (a .count) (a .offset) (at-seen-length (at-least c) .seen-length .result) (getD (a .control .«staged_len») (a .e .blob) 0)
-    (getD (a .control .«committed_len») (a .e .blob) 0) (at-least c .least .result) (at-least c .before .read-count .result) (at-writes (at-least c) .writes .result)
-    (a .committed .now) (a .staged .now) (entry (at-least c) .pre .1 .0) (entry (at-least c) .pre .1 .1 .0) (entry (at-least c) .pre .1 .1 .1 .0)
-    (at-seen-length (at-least c) .seen-length .ensures) (entry (at-least c) .pre .1 .1 .1 .1 .1 .0) (entry (at-least c) .pre .1 .1 .1 .1 .1 .1)
-    (at-least c .before .read-count .ensures) (at-least c .least .ensures) in (
+    let least = at-source c .before in
+    let start = entry least in
+    let a = start .args in
+    let y = lies least in (
       y .most,
-      λ (n im h : List ℕ). read-is (stateOf (a .control) (a .table .now) n (a .committed .now) (a .staged .now) im h) (a .r) (a .e) (entry (at-least c) .pre .0 .row-words)
-          (entry (at-least c) .pre .1 .0) (a .clock) (a .offset) (a .count) (at-least c .before .read-count .result) (at-writes (at-least c) .writes .result)
-          (c .before .before .write-row .last .0) (a .answer .now) (at-copy-at c .copy-at .last .0) (at-source c .source .result .now) (at-writes (at-least c) .writes .ensures)
-          (at-source c .source .ensures ∙ seen (at-writes (at-least c) .writes .result) (a .e .blob) (a .count) (a .offset) (at-seen-length (at-least c) .seen-length .result)
-          (at-least c .least .result) (at-least c .before .read-count .result) (getD (a .control .«staged_len») (a .e .blob) 0) (getD (a .control .«committed_len») (a .e .blob) 0)
-          (a .committed .now) (a .staged .now) (at-seen-length (at-least c) .seen-length .ensures) (entry (at-least c) .pre .1 .1 .1 .1 .1 .0) (entry (at-least c) .pre .1 .1 .1 .1 .1 .1)
-          (at-least c .before .read-count .ensures) (at-least c .least .ensures))
-          (ap length (at-source c .source .ensures) ∙ y .long) (omega (arith, y .most, entry (at-least c) .pre .1 .1 .1 .1 .0)) (at-copy-at c .copy-at .ensures)
+      λ (n im h : List ℕ). read-is (stateOf (a .control) (a .table .now) n (a .committed .now) (a .staged .now) im h) (a .r) (a .e) (start .pre .0 .row-words)
+          (start .pre .1 .0) (a .clock) (a .offset) (a .count) (least .before .read-count .result) (at-writes least .writes .result) (c .before .before .write-row .last .0)
+          (a .answer .now) (at-copy-at c .copy-at .last .0) (at-source c .source .result .now) (at-writes least .writes .ensures)
+          (at-source c .source .ensures ∙ seen (at-writes least .writes .result) (a .e .blob) (a .count) (a .offset) (least .before .before .seen-length .result)
+          (least .min-u32 .result) (least .before .read-count .result) (stagedLen start) (committedLen start) (a .committed .now) (a .staged .now)
+          (least .before .before .seen-length .ensures) (start .pre .1 .1 .1 .1 .1 .0) (start .pre .1 .1 .1 .1 .1 .1) (least .before .read-count .ensures) (least .min-u32 .ensures))
+          (ap length (at-source c .source .ensures) ∙ y .long) (omega (arith, y .most, start .pre .1 .1 .1 .1 .0)) (at-copy-at c .copy-at .ensures)
           (c .before .before .write-row .ensures ∙ ap (λ (x : Entry). block rowWords (a .r) .put (wordsOf x) (a .table .now)) (at-lifted c .lifted .ensures)),
     )
 
@@ -129,7 +123,7 @@ read-spec =
     seen-length-requires
     read-count-requires
     cast-n
-    least-requires
+    min-u32-requires
     cast-from
     mul-source
     add-source

@@ -3,11 +3,10 @@ use mathlib.Core.Path.{sym, _∙_, ap}
 use mathlib.Core.Bool.{not}
 use Rattle.protocol.specs.declared.FlashKind.{FlashKind}
 use borrow.Author.Needs.{needs}
-use Rattle.places.proofs.flash_listed.Statement.{statement}
+use Rattle.name_flash.proofs.flash_listed.Statement.{statement}
 use Rattle.rules.specs.Opening.{flashListed}
-use Rattle.places.proofs.flash_listed.Tie as tie
+use Rattle.name_flash.proofs.flash_listed.Tie as tie
 
--- the places that the answers read
 abbrev entry : tie.After-is-idle → tie.Start
 entry c = c .before .before .before
 

@@ -1,4 +1,4 @@
--- `response_send::seal` meets its contract: header and CRC go in front of the fields that stand in their place. Assumes nothing.
+-- `response_frame::seal` meets its contract: header and CRC go in front of the fields that stand in their place. Assumes nothing.
 use borrow.Author.Needs.{needs}
 use mathlib.Core.Path.{_∙_, ap}
 use Rattle.laws.specs.Bytes.{bytesOf}
@@ -6,24 +6,29 @@ use Rattle.laws.specs.Ranges.{lent-part}
 use Prim.Native.Nat.{_-_}
 use Rattle.crc.specs.Crc.{crc}
 use Rattle.protocol.specs.Decode.{fieldsAt}
-use Rattle.response_send.proofs.Laws.{sealed}
-use Rattle.response_send.proofs.seal.Statement.{statement}
-use Rattle.response_send.proofs.seal.Tie as tie
+use Rattle.response_frame.proofs.Laid.{sealed}
+use Rattle.response_frame.proofs.seal.Statement.{statement}
+use Rattle.response_frame.proofs.seal.Tie as tie
 
--- the places that the answers read
-abbrev entry : tie.After-slice-known3 → tie.Start
-entry c =
+abbrev start : tie.After-slice-known3 → tie.Start
+start c =
     c .before .before .before .before .before .before .before .before .before .before .before .before .before .before
     .before .before
 
-abbrev at-header-of : tie.After-slice-known3 → tie.After-header-of
-at-header-of c = c .before .before .before .before .before .before .before .before .before .before .before .before .before .before
+abbrev at-header : tie.After-slice-known3 → tie.After-header-of
+at-header c = c .before .before .before .before .before .before .before .before .before .before .before .before .before .before
 
-abbrev at-bytes-of-u16 : tie.After-slice-known3 → tie.After-bytes-of-u16
-at-bytes-of-u16 c = c .before .before .before .before .before .before .before .before .before .before
+abbrev at-crc : tie.After-slice-known3 → tie.After-crc16
+at-crc c = c .before .before .before .before .before .before .before .before .before .before .before
 
-abbrev at-put-at : tie.After-slice-known3 → tie.After-put-at
-at-put-at c = c .before .before .before .before .before .before .before
+abbrev at-bytes : tie.After-slice-known3 → tie.After-bytes-of-u16
+at-bytes c = c .before .before .before .before .before .before .before .before .before .before
+
+abbrev at-first : tie.After-slice-known3 → tie.After-put-at
+at-first c = c .before .before .before .before .before .before .before
+
+abbrev at-second : tie.After-slice-known3 → tie.After-put-at2
+at-second c = c .before .before
 
 add-end : tie.Need-add-end
 add-end c = search needs
@@ -63,12 +68,11 @@ same-length c = search needs
 
 returns : tie.Need-returns
 returns c =
-    let start = entry c in
-    let a = start .args .answer .now in
-    let n = start .args .len in
-    sealed (start .args .sub) n _ _ a _ _ _ (at-header-of c .header-of .ensures)
-    (at-bytes-of-u16 c .bytes-of-u16 .ensures ∙ ap (bytesOf 2) (at-bytes-of-u16 c .before .crc16 .ensures ∙ ap crc (lent-part fieldsAt n a))) (at-put-at c .put-at .ensures .1)
-    (at-put-at c .put-at .ensures .0) (c .before .before .put-at2 .ensures .1) (start .pre)
+    let a = start c .args .answer .now in
+    let n = start c .args .len in
+    let crc-is = at-bytes c .bytes-of-u16 .ensures ∙ ap (bytesOf 2) (at-crc c .crc16 .ensures ∙ ap crc (lent-part fieldsAt n a)) in
+    sealed (start c .args .sub) n _ _ a _ _ _ (at-header c .header-of .ensures) crc-is
+    (at-first c .put-at .ensures .1) (at-first c .put-at .ensures .0) (at-second c .put-at2 .ensures .1) (start c .pre)
 
 pub seal-spec : {M : Type 1} → statement M
 seal-spec =
