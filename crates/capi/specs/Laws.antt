@@ -25,7 +25,7 @@ pub memory-state : (l : Memory) → controlFits (l .control) ≡ true → memory
 memory-state l f = ap (withControl l) (words-control (l .control) f)
 
 -- ---- a request
--- "FF", and all is as found
+-- FF, and all is as it was
 abbrev pub refusedKept : Memory → List ℕ → Responded
 refusedKept l a = record { code = notSound; len = 0; memory = l; answer = a }
 

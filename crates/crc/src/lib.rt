@@ -3,7 +3,7 @@ ghost use mathlib.Core.Path.{_≡_};
 ghost use Prim.Native.Nat.{_*_};
 ghost use Rattle.crc.specs.Crc.{table, shifts, byteStep, crcFrom, crc};
 
-// Entry b is the register after b, placed in the high byte, is shifted left eight times.
+// Number b is what eight steps make of b in the register's upper half.
 const TABLE: [u16; 256] = [
     0x0000,
     0x1021,

@@ -116,7 +116,7 @@ verifiesImage s (jobEnded false) = false
 abbrev pub startsUpdate : State → Event → Bool
 startsUpdate s e = not (eqb (jobState Update s) running) && eqb (jobState Update (next s e)) running
 
--- "was verified since it was last opened", carried along a history: opened, no; verified, yes; else as it was
+-- whether the image was verified since it was last opened, carried along a history: opened, no; verified, yes; else as before
 abbrev pub watch : Bool → State → Event → Bool
 watch v s e = cond (opensImage s e) false (cond (verifiesImage s e) true v)
 
@@ -701,7 +701,7 @@ unfolding fresh
 fresh-not (this h) = let z : _≡_ {A = ℕ} 0 1 = cc in omega arith
 fresh-not (that h) = let z = bit-zero (h .row) in let u : bit (h .row) 0 ≡ 1 = h .live .1 in omega arith
 
--- AN UPDATE JOB STARTS ONLY IF THE IMAGE WAS VERIFIED SINCE IT WAS LAST OPENED, OR, IF NEVER OPENED, VERIFIED AT ALL
+-- AN UPDATE JOB STARTS ONLY IF THE IMAGE WAS VERIFIED SINCE IT WAS LAST OPENED, OR, IF NEVER OPENED, VERIFIED AT ALL (rule 21.6)
 pub update-verified : (es : List Event) (e : Event) → startsUpdate (run fresh es) e ≡ true → verifiedSince false fresh es ≡ true
 update-verified es e st = promise es false fresh fresh-sound (λ (x : Stands fresh). absurd (fresh-not x)) e st
 
@@ -728,7 +728,7 @@ both-not false true true f g = absurd (g refl refl)
 both-not false true false f g = refl
 both-not false false c f g = refl
 
--- IMAGE OR HASH AND VERIFY ARE NEVER OPEN TOGETHER
+-- IMAGE OR HASH AND VERIFY ARE NEVER OPEN TOGETHER (rule 21.5)
 pub never-together : (es : List Event) → (isOpen Image (run fresh es) || isOpen Hash (run fresh es)) && isOpen Verify (run fresh es) ≡ false
 never-together es =
     let s = run fresh es in
@@ -770,7 +770,7 @@ watched (e ∷ es) v s h = go (watched es (watch v s e) (next s e) h)
       not-opened = x .not-opened;
     })
 
--- AN UPDATE JOB STARTS ONLY IF THE HISTORY HAS A VERIFICATION AFTER WHICH THE IMAGE WAS NOT OPENED
+-- AN UPDATE JOB STARTS ONLY IF THE HISTORY HAS A VERIFICATION AFTER WHICH THE IMAGE WAS NOT OPENED (rule 21.6)
 pub update-after-verify : (es : List Event) (e : Event) → startsUpdate (run fresh es) e ≡ true → VerifiedIn fresh es
 update-after-verify es e st = go (watched es false fresh (update-verified es e st))
   where

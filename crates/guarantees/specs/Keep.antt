@@ -339,12 +339,12 @@ answered-sound (SessionStat session) t m s nm g = session-sound _ t _ s g
 answered-sound (WriteMeta session) t m s nm g = session-sound _ t _ s g
 answered-sound (Refused code) t m s nm g = g
 
--- EVERY MESSAGE KEEPS A SOUND STATE SOUND
+-- EVERY MESSAGE KEEPS A SOUND STATE SOUND (rule 21.3)
 pub respond-sound : (t : ℕ) (m : List ℕ) (s : State) → isSound s ≡ true → isSound (respond t m s .state) ≡ true
 respond-sound t m s h =
     ap (λ (o : Effect). isSound (o .state)) (respond-is t m s h) ∙ test-of-sound (answered (decoded m) t m s .1) (answered-sound (decoded m) t m s (decoded-inside m) (sound-of-test s h))
 
--- AND SO DOES A JOB OUTCOME
+-- AND SO DOES A JOB OUTCOME (rule 21.3)
 pub job-sound : (good : Bool) (s : State) → isSound s ≡ true → isSound (jobOutcome good s .state) ≡ true
 job-sound good s h =
     ap (λ (o : Effect). isSound (o .state)) (job-is good s h) ∙ test-of-sound (onSession OnFlash 0 (endJob good) s .1) (session-sound OnFlash 0 (endJob good) s (sound-of-test s h))

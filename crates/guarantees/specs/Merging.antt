@@ -85,7 +85,7 @@ Names s i other = ⊥
 
 -- the event may stand in the list of the session that row i has in s: a Read, Write, Commit, SessionStat or Close with the identifier that the row has there, also after its Close,
 -- or a job outcome where the row is the flash session, or a message that is refused before its command's own order. It admits two kinds more than document 01 asks for:
--- WriteMeta with the identifier, and Open, Delete and Stat that are refused for their name's form
+-- WriteMeta with the identifier, and Open, Delete and Stat that are refused for their name's form (rule 21.8)
 abbrev pub Mine : State → ℕ → Event → Type 0
 Mine s i e = Live i s × Names s i (deed e)
 
@@ -260,7 +260,7 @@ module _ (s₀ : State) (good₀ : Sound s₀) where
   start : Since s₀ s₀
   start = record { good = good₀; from-start = λ (r : ℕ) (l : Live r s₀). l; id-from = λ (r : ℕ) (l : Live r s₀). refl; blob-from = λ (r : ℕ) (l : Live r s₀). refl }
 
--- TWO SESSIONS: any merge of their lists does what the lists do whole, one after the other, in either order
+-- TWO SESSIONS: any merge of their lists does what the lists do whole, one after the other, in either order (rule 21.7)
 pub merge-two : (s : State) → isSound s ≡ true → (i j : ℕ) (xs ys : List Event) (zs : List (ℕ × Event)) → i ≢ j → All (Mine s i) xs → All (Mine s j) ys → Merge i j xs ys zs
     → Same step s zs (tag i xs ++ tag j ys) × Same step s zs (tag j ys ++ tag i xs)
 merge-two s h i j xs ys zs n a b m =
@@ -268,7 +268,7 @@ merge-two s h i j xs ys zs n a b m =
     two step (Since s) (Mine s) (step-apart s g) i j xs ys zs s n (start s g) a b m
 
 -- ANY NUMBER OF SESSIONS: any merge of their lists does what the lists do whole, one after the other, in any order `os` that names each list once;
--- and each list is answered as it is when it runs alone
+-- and each list is answered as it is when it runs alone (rule 21.7)
 pub merge-all : (s : State) → isSound s ≡ true → (lists : ℕ → List Event) (zs : List (ℕ × Event)) (os : List ℕ) → ((i : ℕ) → All (Mine s i) (lists i)) → Merges lists zs
     → ((i : ℕ) → lists i ≢ [] → times i os ≡ 1)
     → Same step s zs (whole lists os) × ((i : ℕ) → of i (answers step s zs) ≡ alone step s (lists i))

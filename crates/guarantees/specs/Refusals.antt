@@ -241,7 +241,7 @@ abbrev pub leftIn : Bool → Request → ℕ → State → State
 leftIn true q t s = leftBy q t s
 leftIn false q t s = s
 
--- A REFUSED MESSAGE CHANGES NOTHING AND WRITES NO RESPONSE, BUT FOR OPEN'S SWEEP
+-- A REFUSED MESSAGE CHANGES NOTHING AND WRITES NO RESPONSE, BUT FOR OPEN'S SWEEP (rule 21.1)
 pub refused-message : (t : ℕ) (m : List ℕ) (s : State) → respond t m s .code ≢ success → Nothing (respond t m s) (leftIn (isSound s) (decoded m) t s)
 unfolding respond
 refused-message t m s = go (isSound s)
@@ -255,7 +255,7 @@ refused-message t m s = go (isSound s)
         record { no-response = f .1; as-found = keep-answered (decoded m) t m s (f .0) }
     go false h = record { no-response = refl; as-found = refl }
 
--- A REFUSED JOB OUTCOME CHANGES NOTHING
+-- A REFUSED JOB OUTCOME CHANGES NOTHING (rule 21.1)
 pub refused-job : (good : Bool) (s : State) → jobOutcome good s .code ≢ success → Nothing (jobOutcome good s) s
 unfolding jobOutcome
 refused-job good s = go (isSound s)

@@ -53,7 +53,7 @@ fn delete_store(
     }
 }
 
-// Delete: base or flash (D5), open session (C0), not held (CB); else the slot is freed. A name that is not held has no session, so it is looked up first.
+// Delete by what the name names (rule 14.1). A name that is not held has no session, so the slot is looked up before the session.
 pub fn delete(
     blob: Blob,
     message: &[u8],

@@ -26,7 +26,7 @@ use state::mask::lowest_free;
 use state::row::Wanted;
 use state::values::with_phase;
 
-// Image or hash: its bytes and length go to zero, phase Uploading. The other flash names leave all as it is.
+// Image and hash begin empty, and the phase is Uploading; the other flash names change nothing (rule 9.13).
 fn empty_flash(kind: FlashKind, control: Control, image: &mut [u8], hash: &mut [u8]) -> Control
     requires { ⌜ ImageLent (now image) × HashLent (now hash) ⌝ }
     ensures { λ v. ⌜ ((table names committed staged : List ℕ) → stateOf v table names committed staged (now (image .exit)) (now (hash .exit)) ≡ inBody flash .put (openedFlash kind (stateOf control table names committed staged (now (image .entry)) (now (hash .entry)) .flashGroup)) (stateOf control table names committed staged (now (image .entry)) (now (hash .entry)))) ⌝ }

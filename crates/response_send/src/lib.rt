@@ -15,7 +15,7 @@ pub struct Sent {
     pub len: usize,
 }
 
-// What a command says becomes the response, at the front of the answer buffer; a refusal leaves the buffer as found.
+// What a command says becomes the response, with the rest of the answer buffer kept; a refusal changes no byte (section 19).
 pub fn finish(sub: u8, said: Said, answer: &mut [u8]) -> Sent
     requires { ⌜ AnswerLent (now answer) × (fieldsLength said ≤ readMost) ⌝ }
     ensures { λ r. ⌜ ((r .code .0 ≡ framed sub (replyOf said (now (answer .entry))) .0) × (r .len ≡ length (framed sub (replyOf said (now (answer .entry))) .1))) × (now (answer .exit) ≡ answerAfter sub (replyOf said (now (answer .entry))) (now (answer .entry))) ⌝ }

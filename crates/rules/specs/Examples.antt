@@ -1,4 +1,4 @@
--- The starred numbers of document 01's "Numbers to try", as one statement over the rules, on whole messages. Assumes nothing.
+-- The worked numbers, as one statement over the rules, on whole messages. Assumes nothing.
 use mathlib.Core.Path.{_≡_, refl, sym, _∙_, ap, subst}
 use mathlib.Core.Logic.{_≢_}
 use mathlib.Core.Bool.{Bool, true, false, not, _&&_}
@@ -80,25 +80,25 @@ Closed i t s y = (inRow i .get (swept t s) ≡ freeRow) × Or (inRow i .get y �
 
 -- THE STARRED NUMBERS
 pub record Starred : Type 0 where
-  -- "123456789" gives 0x29B1; no bytes give 0xFFFF
+  -- the CRC of the nine digits, and of no bytes (rule 2.5)
   pub crc-digits : crc (0x31 ∷ 0x32 ∷ 0x33 ∷ 0x34 ∷ 0x35 ∷ 0x36 ∷ 0x37 ∷ 0x38 ∷ 0x39 ∷ []) ≡ 0x29B1
   pub crc-nothing : crc [] ≡ 0xFFFF
-  -- Fresh count is 4
+  -- Fresh count is 4 (rule 8.6)
   pub fresh-count : (t : ℕ) → respond t (header countCommand) fresh ≡ record { code = success; response = sent countCommand (bytesOf 4 4); state = fresh }
-  -- Length 100: Read at 90 for 58 gives 10, at 0 for 100 gives 58, at 100 gives `CF C2 00 03 FF FF`
+  -- Reads of a session that sees 100 bytes: 10 of 58 near the end, 58 of 100, and none from the end on (rule 10.5)
   pub read-90 : (t i : ℕ) (s : State) → Sees 100 i s → Shows t (askRead (ident i s) 90 58) i 90 10 s
   pub read-0 : (t i : ℕ) (s : State) → Sees 100 i s → Shows t (askRead (ident i s) 0 100) i 0 58 s
   pub read-100 : (t i : ℕ) (s : State) → Sees 100 i s
       → (respond t (askRead (ident i s) 100 58) s .code ≡ success) × (respond t (askRead (ident i s) 100 58) s .response ≡ 0xCF ∷ 0xC2 ∷ 0x00 ∷ 0x03 ∷ 0xFF ∷ 0xFF ∷ [])
-  -- Length 4,060: 52 bytes at 4,044 accepted, at 4,045 C8; at 4,061 C9
+  -- Writes of 52 bytes by a session that has 4,060: up to the capacity, one past it, and past the length (rule 11.6)
   pub write-4044 : (t i : ℕ) (bytes : List ℕ) (s : State) → Writes 4060 i s → length bytes ≡ 52 → respond t (askWrite (ident i s) 4044 bytes) s .code ≡ success
   pub write-4045 : (t i : ℕ) (bytes : List ℕ) (s : State) → Writes 4060 i s → length bytes ≡ 52 → respond t (askWrite (ident i s) 4045 bytes) s .code ≡ tooLong
   pub write-4061 : (t i : ℕ) (bytes : List ℕ) (s : State) → Writes 4060 i s → length bytes ≤ 52 → respond t (askWrite (ident i s) 4061 bytes) s .code ≡ outOfRange
-  -- Stamp 100, last sweep 0: every Open at 700 keeps the session, every Open at 701 closes it; so does one that is refused, and then the row is free
+  -- Stamp 100, last sweep 0: every Open at 700 keeps the session, every Open at 701 closes it; so does one that is refused, and then the row is free (rule 18.6)
   pub open-700 : (i flags : ℕ) (b : Blob) (m : List ℕ) (s : State) → Stamped i s → decoded m ≡ Open flags b → inRow i .get (respond 700 m s .state) ≡ inRow i .get s
   pub open-701 : (i flags : ℕ) (b : Blob) (m : List ℕ) (s : State) → Stamped i s → decoded m ≡ Open flags b → Closed i 701 s (respond 701 m s .state)
   pub refused-701 : (i flags : ℕ) (m : List ℕ) (s : State) → Stamped i s → decoded m ≡ Open flags Base → (respond 701 m s .code ≡ notFound) × (inRow i .get (respond 701 m s .state) ≡ freeRow)
-  -- Last sweep 0: at 59 not due, at 60 due, for every Open
+  -- Last sweep 0: at 59 not due, at 60 due, for every Open (rule 18.6)
   pub open-59 : (flags : ℕ) (b : Blob) (m : List ℕ) (s : State) → isSound s ≡ true → s .lastSweep ≡ 0 → decoded m ≡ Open flags b → respond 59 m s .state .lastSweep ≡ 0
   pub open-60 : (flags : ℕ) (b : Blob) (m : List ℕ) (s : State) → isSound s ≡ true → s .lastSweep ≡ 0 → decoded m ≡ Open flags b → respond 60 m s .state .lastSweep ≡ 60
   -- states and messages that meet all this: one session that writes `/scan/a`, with stamp 100 and last sweep 0; Opens of `/scan/b` and of the base
@@ -339,7 +339,7 @@ open-base : decoded (askOpen readOnly base) ≡ Open readOnly Base
 unfolding decoded same all bodyFits crcFits asked withName nameForm firstZero blobNamed storeName alnum base flashFolder flashWord little bytesOf crcFrom byteStep shifts shift
 open-base = refl
 
--- ALL OF THEM HOLD
+-- ALL OF THEM HOLD (rule 21.4)
 pub starred : Starred
 starred = record {
   crc-digits = digits;

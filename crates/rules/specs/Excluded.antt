@@ -41,7 +41,7 @@ use Rattle.rules.specs.Opening.{opened, openedFlash}
 use Rattle.rules.specs.OpenLaws.{open-flash-has}
 use lib.Count.{ones}
 
--- ---- one that stores nothing, and one that handles the first Write and acknowledges the rest
+-- ---- one that stores nothing, and one that stores only what the first Write has
 done-not-refused : (c : ℕ) → refused c ≡ done → ⊥
 done-not-refused c e = let z : _≡_ {A = ℕ} 0 1 = cc in omega arith
 
@@ -70,7 +70,7 @@ module _ (t u offset : ℕ) (r : Row) (b : Slot) (four : length (r .words) ≡ r
       later : Slot
       later = withStaged (bytesAfter (w ∷ ws) offset (b .stagedBytes)) (lengthAfter (w ∷ ws) offset (b .stagedLen)) b
 
-  -- WHAT AN ACCEPTED WRITE STORED IS WHAT A READ OF THE SAME SESSION THEN SHOWS, clean before it or not, whatever was written before
+  -- WHAT AN ACCEPTED WRITE STORED IS WHAT A READ OF THE SAME SESSION THEN SHOWS, clean before it or not, whatever was written before (rule 21.4)
   pub read-after-write : (ws : List ℕ) → length ws ≤ readMost → ReadsBack ws (onStore t (write offset ws) r b)
   unfolding onStore writeStore
   read-after-write ws few =
@@ -79,7 +79,7 @@ module _ (t u offset : ℕ) (r : Row) (b : Slot) (four : length (r .words) ≡ r
       (λ (h : offset ≤ b .stagedLen) (l : offset + length ws ≤ slotSize). stored-shows ws few l) (λ (code : ℕ) (e : refused code ≡ done). absurd (done-not-refused code e)))
 
 -- ---- one that invents a count or a size
--- COUNT SENDS ONE FOR `/scan/`, ONE FOR EACH BIT OF THE MASK OF COMMITTED SLOTS, AND THE FLASH NAMES OF THE PHASE
+-- COUNT SENDS ONE FOR `/scan/`, ONE FOR EACH BIT OF THE MASK OF COMMITTED SLOTS, AND THE FLASH NAMES OF THE PHASE (rule 21.4)
 pub count-from-masks : (t : ℕ) (s : State) → isSound s ≡ true → respond t (header countCommand) s .response ≡ sent countCommand (bytesOf 4 (suc (ones (s .store .marks) + flashCount (s .flashGroup .phase))))
 count-from-masks t s h =
     ap (λ (o : Effect). o .response) (count-answer t s h) ∙ ap (λ (n : ℕ). sent countCommand (bytesOf 4 n)) (count-is s (sound-of-test s h .shape .marks-small))
@@ -88,7 +88,7 @@ size-sent : (state size : ℕ) → size < thirtyTwoBits → little 4 2 (statFiel
 unfolding statFields little bytesOf
 size-sent state size h = four-bytes size h
 
--- SESSIONSTAT SENDS THE LENGTH THAT THE SESSION SEES
+-- SESSIONSTAT SENDS THE LENGTH THAT THE SESSION SEES (rule 21.4)
 pub stat-size : (t : ℕ) (r : Row) (b : Slot) → seenLength (writes r) b < thirtyTwoBits
     → (onStore t stat r b .0 ≡ reply (statFields (stateBits (wordOf r)) (seenLength (writes r) b))) × (little 4 2 (statFields (stateBits (wordOf r)) (seenLength (writes r) b)) ≡ seenLength (writes r) b)
 unfolding onStore
@@ -106,7 +106,7 @@ longer-differs : same (padded nameSize moreau) (padded nameSize moreau2) ≡ fal
 unfolding same all padded nameSize base
 longer-differs = refl
 
--- WHERE ONLY `/scan/moreau` IS HELD, IT IS FOUND, AND `/scan/moreau2` IS NOT
+-- WHERE ONLY `/scan/moreau` IS HELD, IT IS FOUND, AND `/scan/moreau2` IS NOT (rule 21.4)
 pub only-the-whole-name : (n : ℕ) → (slotNamed moreau (writer moreau n) ≡ some 0) × (slotNamed moreau2 (writer moreau n) ≡ none)
 unfolding slotNamed
 only-the-whole-name n = (
@@ -128,7 +128,7 @@ only-the-whole-name n = (
     at k (no m) = elsewhere moreau2 k m
 
 -- ---- one that hands a closed identifier straight out again
--- AFTER AN OPEN GAVE OUT AN IDENTIFIER, "NEXT" IS ITS SUCCESSOR; so the next Open does not give it out: `not-again` of Identifiers
+-- AFTER AN OPEN GAVE OUT AN IDENTIFIER, "NEXT" IS ITS SUCCESSOR; so the next Open does not give it out: `not-again` of Identifiers (rule 21.4)
 pub next-moves : (p : Place) (r b flags clean t : ℕ) (body : Body p) (s : State) → (opened p r b flags clean t body s .0 ≡ reply (bytesOf 2 (freshId s))) × (opened p r b flags clean t body s .1 .next ≡ after (freshId s))
 unfolding opened
 next-moves p r b flags clean t body s = (refl, refl)
@@ -157,7 +157,7 @@ opened-uploading Cleanup b h = absurd (true≢false (sym h))
 not-uploading : (c : ℕ) (s : State) → NowUploading (refused c, s)
 not-uploading c s f e = absurd (let z : _≡_ {A = ℕ} 0 1 = cc in omega arith)
 
--- AN OPEN OF IMAGE OR HASH THAT IS ACCEPTED LEAVES PHASE UPLOADING
+-- AN OPEN OF IMAGE OR HASH THAT IS ACCEPTED LEAVES PHASE UPLOADING (rule 21.4)
 pub opening-uploads : (k : FlashKind) (flags t : ℕ) (s : State) → Uploads k ≡ true → NowUploading (openFlash k flags t s)
 unfolding opened
 opening-uploads k flags t s h =
@@ -267,7 +267,7 @@ module _ (t : ℕ) (r : Row) (four : length (r .words) ≡ rowWords) where
     flash-lifts k writeMeta l = no-stamp b notSupported
     flash-lifts k (endJob good) l = absurd l
 
-  -- AN ACCEPTED COMMAND LIFTS ITS OWN ROW'S STAMP TO THE CLOCK, FROM WHAT THAT ROW HAD; in the state it sees and changes no other row: `by-own-part` and `other-rows` of Laws
+  -- AN ACCEPTED COMMAND LIFTS ITS OWN ROW'S STAMP TO THE CLOCK, FROM WHAT THAT ROW HAD; in the state it sees and changes no other row: `by-own-part` and `other-rows` of Laws (rule 21.4)
   pub own-stamp : (p : Place) (c : Command) (b : Body p) → Lasting c → Lifted t r (onPart p t c r b)
   own-stamp (slot k) c b l = store-lifts b c l
   own-stamp flash c b l = flash-lifts b (kindOf (blobOf r)) c l

@@ -62,7 +62,7 @@ module _ {B : Type 0} (capacity len offset n : ℕ) (r : Row) (b : B) (accepted 
       go true p false q = bad tooLong
       go false p y q = bad outOfRange
 
-  -- "offset above length (C9)"
+  -- an offset past the length
   pub placed-beyond : len < offset → placed capacity len offset n r b accepted ≡ refuse outOfRange r b
   unfolding placed
   placed-beyond h = ap (λ (x : Bool). cond x (cond (leb (offset + n) capacity) accepted (refuse tooLong r b)) (refuse outOfRange r b)) (lt-leb offset len h)
@@ -73,7 +73,7 @@ module _ {B : Type 0} (capacity len offset n : ℕ) (r : Row) (b : B) (accepted 
       ap (λ (x : Bool). cond x (cond (leb (offset + n) capacity) accepted (refuse tooLong r b)) (refuse outOfRange r b)) (le-leb offset len h)
       ∙ ap (λ (x : Bool). cond x accepted (refuse tooLong r b)) q
 
-  -- "end above capacity (C8)"
+  -- an end past the capacity
   pub placed-over : offset ≤ len → capacity < offset + n → placed capacity len offset n r b accepted ≡ refuse tooLong r b
   placed-over h l = inside false h (lt-leb (offset + n) capacity l)
 

@@ -47,7 +47,7 @@ askSessionStat session = sent sessionStatCommand (bytesOf 2 session)
 abbrev pub thirtyTwoBits : ℕ
 thirtyTwoBits = 2 ^ 32
 
--- "Write carries at most 52 bytes"
+-- the most that a Write carries (rule 3.2)
 abbrev pub writeMost : ℕ
 writeMost = 52
 

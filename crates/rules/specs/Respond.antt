@@ -57,7 +57,7 @@ silent (refused code) = (code, [])
 silent done = (success, [])
 silent (reply f) = (success, [])
 
--- A JOB OUTCOME, good or failed; it has no clock (rule 17.1)
+-- A JOB OUTCOME, good or failed; it has no clock (rules 17.1 and 21.2)
 unfoldable pub jobOutcome : (good : Bool) → State → Effect
 jobOutcome good s = cond (isSound s) (effectOf (silent (onSession OnFlash 0 (endJob good) s .0)) (onSession OnFlash 0 (endJob good) s .1)) (unsound s)
 
@@ -73,6 +73,6 @@ pub record Served : Type 0 where
 abbrev pub servedWith : Effect → List ℕ → Served
 servedWith o a = record { code = o .code; len = length (o .response); state = o .state; answer = laid (o .response) a }
 
--- THE LIBRARY'S FUNCTION: a message at the clock t, the state and the answer buffer, whose size is tested too (rules 5.1 and 19.1)
+-- THE LIBRARY'S FUNCTION: a message at the clock t, the state and the answer buffer, whose size is tested too (rules 5.1, 19.1 and 21.2)
 unfoldable pub served : (t : ℕ) → List ℕ → State → List ℕ → Served
 served t m s a = servedWith (cond (eqb (length a) answerSize) (respond t m s) (unsound s)) a

@@ -98,7 +98,7 @@ fn put_hexes(text: &mut [u8], at: usize, bytes: &[u8], len: usize)
     }
 }
 
-// The code and, for a success, a space and the response; the place behind them.
+// A line without its line feed (rule 20.4); the place behind it.
 fn write_answer(code: Code, answer: &[u8], len: usize, text: &mut [u8], at: usize) -> usize
     requires { ⌜ (len ≤ answerSize) × ((len ≤ length (now answer)) × (at + lineMost ≤ length (now text))) ⌝ }
     ensures { λ r. ⌜ (r ≡ at + length (answerText (code .0) (take len (now (answer .entry))))) × (now (text .exit) ≡ sets (now (text .entry)) at (answerText (code .0) (take len (now (answer .entry))))) ⌝ }

@@ -11,14 +11,14 @@ use Rattle.state.specs.declared.row.Entry.{Entry}
 use Rattle.state.specs.Entry.{statusSet}
 use Rattle.state.specs.Words.{statusIn}
 
--- "status 0 or 3 becomes 1": a job can start
+-- a job can start (rules 12.4 and 12.5)
 abbrev pub startableIn : ℕ → Bool
 startableIn w = eqb (statusIn w) untried || eqb (statusIn w) failed
 
 abbrev pub started : Entry → Entry
 started e = cond (startableIn (e .word)) (statusSet e running) e
 
--- "Update: 2 zeroes image and hash and gives Idle"
+-- a Close after an update that succeeded, which empties the flash (rule 13.7)
 abbrev pub updatedBy : FlashKind → ℕ → Bool
 updatedBy Image status = false
 updatedBy Hash status = false
@@ -26,7 +26,7 @@ updatedBy Verify status = false
 updatedBy Update status = eqb status succeeded
 updatedBy Cleanup status = false
 
--- "Verify: 2 gives Verified, 3 Uploading. Update: .. 3 Uploading."
+-- the phase after a Close that does not empty it (rules 13.6 to 13.8)
 abbrev pub closedPhase : FlashKind → ℕ → Phase → Phase
 closedPhase Image status p = p
 closedPhase Hash status p = p

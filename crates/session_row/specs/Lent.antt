@@ -10,7 +10,7 @@ use Rattle.state.specs.declared.row.Entry.{Entry}
 use Rattle.state.specs.Entry.{wordsOf}
 use Rattle.state.specs.Lent.{TableLent}
 
--- "lengths fit": those of slot k
+-- the lengths of slot k are within its regions (rule 6.11)
 abbrev pub LengthsFit : Control → ℕ → Type 0
 LengthsFit v k = (getD (v .«committed_len») k 0 ≤ slotSize) × (getD (v .«staged_len») k 0 ≤ slotSize)
 

@@ -15,8 +15,8 @@ use Rattle.rules.specs.Command.{Out, refuse, placed}
 use Rattle.session_row.specs.declared.Written.{Written}
 use Rattle.session_row.specs.declared.Written.the-variants.{Refused, Length}
 
--- "offset above length (C9); end above capacity (C8)"; "length becomes the greater of itself and the end"
-abbrev pub written : ℕ → ℕ → ℕ → ℕ → Written
+-- what a Write of n bytes comes to: C9, C8, or the length after it (rules 11.1 and 11.4)
+abbrev pub written : (capacity len offset n : ℕ) → Written
 written capacity len offset n =
     cond (leb offset len) (cond (leb (offset + n) capacity) (Length (max len (offset + n))) (Refused (record { 0 = tooLong }))) (Refused (record { 0 = outOfRange }))
 

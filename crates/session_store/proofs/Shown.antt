@@ -44,7 +44,7 @@ in-region k offset len from n l p q h = go (decLt len offset)
         let y : from ≡ offset = omega arith in
         part-part (k * slotSize) slotSize offset n l (omega arith) ∙ ap (λ (m : ℕ). part (k * m + offset) n l) slot-size ∙ ap (λ (m : ℕ). part (k * 4096 + m) n l) (sym y)
 
--- "A read-only session sees committed bytes, a writing one staged bytes"
+-- the part that is shown is what the session sees (rules 10.2 to 10.4)
 pub seen : (writing : Bool) (k requested offset len from n x y : ℕ) (committed staged : List ℕ) → len ≡ cond writing x y → y ≤ slotSize → x ≤ slotSize → n ≡ readCount requested offset len → from ≡ min offset len
     → part (k * 4096 + from) n (cond writing staged committed) ≡ part offset (readCount requested offset (cond writing x y)) (cond writing (block slotSize k .get staged) (block slotSize k .get committed))
 seen writing k requested offset len from n x y committed staged e yl xl pn pf = go writing e

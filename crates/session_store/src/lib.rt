@@ -78,7 +78,7 @@ pub fn write(
     }
 }
 
-// The staged region and length become the committed ones.
+// Commit: what is staged is committed too (rule 12.3).
 pub fn commit(
     control: Control,
     table: &mut [u32],

@@ -7,7 +7,7 @@ use Rattle.state.specs.declared.row.Entry.{Entry}
 abbrev pub wordsOf : Entry → List ℕ
 wordsOf e = e .id ∷ e .blob ∷ e .word ∷ e .stamp ∷ []
 
--- "lifts its stamp to the clock if that is later"
+-- the stamp raised to the clock (rule 18.1)
 abbrev pub lifted : Entry → ℕ → Entry
 lifted e t = record { id = e .id; blob = e .blob; word = e .word; stamp = max (e .stamp) t }
 

@@ -70,6 +70,6 @@ fresh-good = record {
   names-differ = λ (k l : ℕ) (hk : k < slotCount) (hl : l < slotCount) (n : k ≢ l) (a : bit k 0 ≡ 1) (b : bit l 0 ≡ 1). absurd (no-row k a);
 }
 
--- A FRESH STATE IS SOUND
+-- A FRESH STATE IS SOUND (rule 21.3)
 pub fresh-sound : isSound fresh ≡ true
 fresh-sound = test-of-sound fresh fresh-good

@@ -5,7 +5,7 @@ use Prim.Native.Nat.{ℕ, _*_}
 use lib.ListN.{length}
 use Rattle.protocol.specs.Numbers.{rowCount, rowWords, slotCount, nameSize, slotSize, imageSize, hashSize, answerSize}
 
--- "lent lengths are exact": table, names, committed or staged regions, image, hash, answer
+-- each lent buffer has its size: table, names, committed or staged regions, image, hash, answer (rule 6.1)
 abbrev pub TableLent : List ℕ → Type 0
 TableLent l = length l ≡ rowCount * rowWords
 

@@ -26,7 +26,7 @@ pub record Slots : Type 0 where
   pub committedLens : List ℕ
   pub stagedLens : List ℕ
 
--- the flash: phase, image and hash, lengths
+-- the flash: phase, image and hash, lengths (rule 5.3)
 pub record FlashBody : Type 0 where
   pub phase : Phase
   pub image : List ℕ
@@ -34,6 +34,7 @@ pub record FlashBody : Type 0 where
   pub imageLen : ℕ
   pub hashLen : ℕ
 
+-- the whole: three groups, the next identifier and the last sweep (rule 5.2)
 pub record State : Type 0 where
   pub sessions : Rows
   pub store : Slots
@@ -45,7 +46,7 @@ pub record State : Type 0 where
 abbrev pub storeOf : Control → List ℕ → List ℕ → List ℕ → Slots
 storeOf v n c g = record { names = n; committed = c; staged = g; slots = v .slots; marks = v .marks; committedLens = v .«committed_len»; stagedLens = v .«staged_len» }
 
--- the state that they make: table, names, committed, staged, image, hash
+-- the state that the control block v and the lent buffers make: table, names, committed, staged, image, hash (rules 5.1 and 5.2)
 abbrev pub stateOf : Control → List ℕ → List ℕ → List ℕ → List ℕ → List ℕ → List ℕ → State
 stateOf v t n c g i h = record {
   sessions = record { table = t; rows = v .rows };
@@ -79,7 +80,7 @@ abbrev pub Body : Place → Type 0
 Body (slot k) = Slot
 Body flash = FlashBody
 
--- "blobs 0-15 are store slots, 16-20 the flash names"
+-- the place of a blob number: the first 16 are the slots, those above them the flash (rule 5.8)
 abbrev pub placeOf : ℕ → Place
 placeOf b = cond (ltb b slotCount) (slot b) flash
 
@@ -102,7 +103,7 @@ withNames m n s = inStore .put (record
 abbrev pub inFlash : Lens State FlashBody
 inFlash = record { get = λ (s : State). s .flashGroup; put = λ (x : FlashBody) (s : State). record { sessions = s .sessions; store = s .store; flashGroup = x; next = s .next; lastSweep = s .lastSweep } }
 
--- a row of the rows
+-- row r: its words of the table, and its bit of the mask (rule 5.9)
 abbrev pub rowOf : ℕ → Lens Rows Row
 rowOf r = record {
   get = λ (x : Rows). record { words = block rowWords r .get (x .table); used = bit r (x .rows) };
@@ -113,7 +114,7 @@ rowOf r = record {
 abbrev pub inRow : ℕ → Lens State Row
 inRow r = into inSessions (rowOf r)
 
--- a slot of the slots
+-- slot k: its part of each buffer, its bit of each mask, its two lengths (rule 5.9)
 abbrev pub slotOf : ℕ → Lens Slots Slot
 slotOf k = record {
   get = λ (x : Slots). record {

@@ -12,7 +12,7 @@ use Rattle.protocol.specs.Numbers.{rowCount, slotCount, rowWords, wordLimit, st
 use Rattle.state.specs.declared.Phase.the-variants.{Idle}
 use Rattle.state.specs.State.{State, Row, Slot, FlashBody, inRow}
 
--- a row's words: identifier, blob, flags with status and clean, stamp (rule 5.4)
+-- a row's words: identifier, blob, flags with status and clean, stamp, any number of 32 bits (rules 5.4 and 5.10)
 abbrev pub idOf : Row → ℕ
 idOf r = getD (r .words) 0 0
 
@@ -51,7 +51,7 @@ storeFlags flags = eqb flags readOnly || eqb flags readWrite
 abbrev pub flashFlags : (flags : ℕ) → Bool
 flashFlags flags = eqb flags writeOnly
 
--- WRITE among the flags of the third word w: 1 or 0
+-- WRITE among the flags of the third word w: 1 or 0 (rule 5.7)
 abbrev pub writingIn : ℕ → ℕ
 writingIn w = writeBit (flagsIn w)
 
