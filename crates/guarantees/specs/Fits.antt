@@ -21,8 +21,10 @@ use Rattle.protocol.specs.declared.Blob.the-variants.{Store, Flash, Base, Unkno
 use Rattle.protocol.specs.declared.Request.{Request}
 use Rattle.protocol.specs.declared.Request.the-variants.{Count, Enumerate, Open, Read, Write, Commit, Close, Delete, Stat, SessionStat, WriteMeta, Refused}
 use Rattle.state.specs.declared.Phase.{Phase}
-use Rattle.state.specs.State.{State, Row, Slot, FlashBody, Place, slot, flash, Body, placeOf, inRow, inBody}
+use Rattle.state.specs.State.{State, Row, Slot, FlashBody, Body, placeOf, inRow, inBody}
 use Rattle.state.specs.Words.{blobOf, wordOf, statusOf, writes, blob, freeSlot}
+use Rattle.state.specs.declared.row.Place.{Place}
+use Rattle.state.specs.declared.row.Place.the-variants.{AtSlot, AtFlash}
 use Rattle.state.specs.Soundness.{slotAt, isSound}
 use Rattle.rules.specs.Store.{readStore, stored, writeStore, commitWriting, commitStore, onStore, seenLength}
 use Rattle.rules.specs.Command.{Command, read, write, commit, stat, close, writeMeta, endJob, commitFits, Out, stateBits}
@@ -146,8 +148,8 @@ module _ (r : Row) (b : FlashBody) where
   short-flash k t (endJob g) = short-job (eqb (statusOf r) running) g
 
 short-part : (p : Place) (t : ℕ) (c : Command) (r : Row) (b : Body p) → Short (onPart p t c r b .0)
-short-part (slot k) t c r b = short-store r b t c
-short-part flash t c r b = short-flash r b (kindOf (blobOf r)) t c
+short-part (AtSlot k) t c r b = short-store r b t c
+short-part AtFlash t c r b = short-flash r b (kindOf (blobOf r)) t c
 
 short-found : (o : Option ℕ) (a : Wanted) (t : ℕ) (c : Command) (s : State) → Short (onFound o a t c s .0)
 short-found none (Id id) t c s = tt
@@ -170,11 +172,11 @@ Brief o = Short (o .0)
 
 short-open-store : (n : List ℕ) (flags t : ℕ) (s : State) → Short (openStore n flags t s .0)
 short-open-store n flags t s =
-    open-store-has Brief s (λ _ _. tt) n flags t (λ (r k : ℕ) _ _ _ _. short-opened (slot k) r k flags 1 t (heldSlot flags (slotAt k s)) s)
-    (λ (r k : ℕ) _ _ _ _ _. short-opened (slot k) r k flags 0 t (newSlot n) s)
+    open-store-has Brief s (λ _ _. tt) n flags t (λ (r k : ℕ) _ _ _ _. short-opened (AtSlot k) r k flags 1 t (heldSlot flags (slotAt k s)) s)
+    (λ (r k : ℕ) _ _ _ _ _. short-opened (AtSlot k) r k flags 0 t (newSlot n) s)
 
 short-open-flash : (k : FlashKind) (flags t : ℕ) (s : State) → Short (openFlash k flags t s .0)
-short-open-flash k flags t s = open-flash-has Brief s (λ _ _. tt) k flags t (λ (r : ℕ) _ _ _ _. short-opened flash r (flashNumber k) writeOnly 0 t (openedFlash k (s .flashGroup)) s)
+short-open-flash k flags t s = open-flash-has Brief s (λ _ _. tt) k flags t (λ (r : ℕ) _ _ _ _. short-opened AtFlash r (flashNumber k) writeOnly 0 t (openedFlash k (s .flashGroup)) s)
 
 short-open : (b : Blob) (flags t : ℕ) (m : List ℕ) (s : State) → Short (openBlob b flags t m s .0)
 unfolding openBlob
@@ -186,14 +188,14 @@ short-open Unknown flags t m s = tt
 short-delete : (b : Blob) (m : List ℕ) (s : State) → Short (deleteBlob b m s .0)
 unfolding deleteBlob deleteStore
 short-delete (Store at len) m s =
-    some-has Brief (slotNamed (part at len m) s) _ _ tt (λ (k : ℕ) _. none-has Brief (rowFound (OnBlob k) s) _ (done, inBody (slot k) .put freeSlot s) tt (λ _. tt))
+    some-has Brief (slotNamed (part at len m) s) _ _ tt (λ (k : ℕ) _. none-has Brief (rowFound (OnBlob k) s) _ (done, inBody (AtSlot k) .put freeSlot s) tt (λ _. tt))
 short-delete (Flash k) m s = tt
 short-delete Base m s = tt
 short-delete Unknown m s = tt
 
 short-stat-part : (p : Place) (r : Row) (b : Body p) → length (statPart p r b) ≤ readMost
-short-stat-part (slot k) r b = stat-short (stateBits (wordOf r)) (seenLength (writes r) b)
-short-stat-part flash r b = stat-short (stateBits (wordOf r)) (flashLength (kindOf (blobOf r)) b)
+short-stat-part (AtSlot k) r b = stat-short (stateBits (wordOf r)) (seenLength (writes r) b)
+short-stat-part AtFlash r b = stat-short (stateBits (wordOf r)) (flashLength (kindOf (blobOf r)) b)
 
 short-stat-row : (r : ℕ) (s : State) → length (statRow r s) ≤ readMost
 unfolding statRow

@@ -15,7 +15,8 @@ use Rattle.protocol.specs.declared.FlashKind.{FlashKind}
 use Rattle.protocol.specs.declared.FlashKind.the-variants.{Image, Hash, Verify, Update, Cleanup}
 use Rattle.state.specs.declared.Phase.{Phase}
 use Rattle.state.specs.declared.Phase.the-variants.{Idle, Uploading, Verified}
-use Rattle.state.specs.State.{Row, FlashBody, flash}
+use Rattle.state.specs.declared.row.Place.the-variants.{AtFlash}
+use Rattle.state.specs.State.{Row, FlashBody}
 use Rattle.state.specs.Parts.{FitsRow}
 use Rattle.state.specs.Words.{idOf, blobOf, wordOf, stampOf, flagsIn, statusIn, cleanIn, statusOf, cleanOf, wordWith, stamped, withStatus, freeRow, emptyFlash}
 use Rattle.state.specs.Facts.{PhaseOk, FlashIdle, FlashSession}
@@ -49,7 +50,7 @@ empty-idle = record { image-fits = omega arith; hash-fits = omega arith; idle-im
 
 module _ (r : Row) (b : FlashBody) (fr : FitsRow r) (fi : length (b .image) ≡ imageSize) (fh : length (b .hash) ≡ hashSize) (on : r .used ≡ 1) (ses : FlashSession r b) where
   abbrev Fine : Row × FlashBody → Type 0
-  Fine c = Proper flash r (c .0) b (c .1)
+  Fine c = Proper AtFlash r (c .0) b (c .1)
 
   abbrev kind : FlashKind
   kind = kindOf (blobOf r)

@@ -27,7 +27,9 @@ use Rattle.protocol.specs.declared.Blob.the-variants.{Store, Flash, Base, Unkno
 use Rattle.protocol.specs.declared.Request.{Request}
 use Rattle.protocol.specs.declared.Request.the-variants.{Count, Enumerate, Open, Read, Write, Commit, Close, Delete, Stat, SessionStat, WriteMeta, Refused}
 use Rattle.state.specs.declared.Phase.the-variants.{Uploading, Verified}
-use Rattle.state.specs.State.{State, Row, Slot, FlashBody, Place, slot, flash, Body, placeOf, inRow, inBody, cell}
+use Rattle.state.specs.declared.row.Place.{Place}
+use Rattle.state.specs.declared.row.Place.the-variants.{AtSlot, AtFlash}
+use Rattle.state.specs.State.{State, Row, Slot, FlashBody, Body, placeOf, inRow, inBody, cell}
 use Rattle.state.specs.Parts.{cell-row-other, row-put, row-view-fits}
 use Rattle.state.specs.Words.{blobOf, wordOf, stampOf, flagsIn, statusIn, statusOf, cleanOf, wordWith, stamped, withStatus, emptyFlash, blob, inUse, Live, fresh, status-with, freeSlot, storeFlags, flashFlags, store-flags}
 use Rattle.state.specs.Soundness.{isSound, slotAt}
@@ -325,15 +327,15 @@ record Flow (G : Type 0) (s s′ : State) : Type 0 where
 flow-same : (G : Type 0) (s : State) → Flow G s s
 flow-same G s = record { row-from = λ (x : ℕ) (l : Live x s). (l, refl); stands-from = λ (h : Stands s). this h }
 
-part-two : (p : Place) (t : ℕ) (c : Command) (r : Row) (b : Body p) → p ≡ flash → length (r .words) ≡ rowWords → kindOf (blobOf r) ≡ Verify
+part-two : (p : Place) (t : ℕ) (c : Command) (r : Row) (b : Body p) → p ≡ AtFlash → length (r .words) ≡ rowWords → kindOf (blobOf r) ≡ Verify
     → statusOf (onPart p t c r b .1 .0) ≡ succeeded → Or (statusOf r ≡ succeeded) (Good c × (statusOf r ≡ running))
-part-two (slot k) t c r b e four kd h = absurd (let z : _≡_ {A = ℕ} 0 1 = cc in omega arith)
-part-two flash t c r b e four kd h = two-flash t r b four (kindOf (blobOf r)) c kd h
+part-two (AtSlot k) t c r b e four kd h = absurd (let z : _≡_ {A = ℕ} 0 1 = cc in omega arith)
+part-two AtFlash t c r b e four kd h = two-flash t r b four (kindOf (blobOf r)) c kd h
 
 part-ver : (p : Place) (t i : ℕ) (c : Command) (s : State) → length (inRow i .get s .words) ≡ rowWords → onPlace p i t c s .1 .flashGroup .phase ≡ Verified
     → Or (s .flashGroup .phase ≡ Verified) ((kindOf (blob i s) ≡ Verify) × (statusOf (inRow i .get s) ≡ succeeded))
-part-ver (slot k) t i c s four h = this h
-part-ver flash t i c s four h = ver-flash t (inRow i .get s) (s .flashGroup) four (kindOf (blob i s)) c h
+part-ver (AtSlot k) t i c s four h = this h
+part-ver AtFlash t i c s four h = ver-flash t (inRow i .get s) (s .flashGroup) four (kindOf (blob i s)) c h
 
 module _ (s : State) (g : Sound s) (i : ℕ) (l : Live i s) (t : ℕ) (c : Command) where
   abbrev own : Place
@@ -465,21 +467,21 @@ module _ (x : State) (g : Sound x) (r : ℕ) (fr : (r < rowCount) × (inRow r .g
       let e = cell-row-other r q p (newRow (freshId x) b flags clean t, body) x (Ne·symm n) in
       this ((l .0, sym (ap (λ (z : Row). z .used) e) ∙ l .1), e)
 
-  opening-slot : (k : ℕ) (body : Slot) → Opening x (opened (slot k) r b flags clean t body x .1)
+  opening-slot : (k : ℕ) (body : Slot) → Opening x (opened (AtSlot k) r b flags clean t body x .1)
   unfolding opened
-  opening-slot k body = record { row-either = λ (q : ℕ) (l : Live q (opened (slot k) r b flags clean t body x .1)). new-row-either (slot k) body q (ℕ-discrete q r) l; phase-either = λ h. h }
+  opening-slot k body = record { row-either = λ (q : ℕ) (l : Live q (opened (AtSlot k) r b flags clean t body x .1)). new-row-either (AtSlot k) body q (ℕ-discrete q r) l; phase-either = λ h. h }
 
-  opening-flash : (body : FlashBody) → (body .phase ≡ Verified → x .flashGroup .phase ≡ Verified) → Opening x (opened flash r b flags clean t body x .1)
+  opening-flash : (body : FlashBody) → (body .phase ≡ Verified → x .flashGroup .phase ≡ Verified) → Opening x (opened AtFlash r b flags clean t body x .1)
   unfolding opened
-  opening-flash body f = record { row-either = λ (q : ℕ) (l : Live q (opened flash r b flags clean t body x .1)). new-row-either flash body q (ℕ-discrete q r) l; phase-either = f }
+  opening-flash body f = record { row-either = λ (q : ℕ) (l : Live q (opened AtFlash r b flags clean t body x .1)). new-row-either AtFlash body q (ℕ-discrete q r) l; phase-either = f }
 
   -- where no flash session was, none with a job is there now; and Uploading is not Verified
-  image-stands : (body : FlashBody) → body .phase ≡ Uploading → rowFound OnFlash x ≡ none → Stands (opened flash r b flags clean t body x .1) → ⊥
+  image-stands : (body : FlashBody) → body .phase ≡ Uploading → rowFound OnFlash x ≡ none → Stands (opened AtFlash r b flags clean t body x .1) → ⊥
   unfolding opened
   image-stands body e quiet (this h) = let z : _≡_ {A = ℕ} 0 1 = cc in omega arith
-  image-stands body e quiet (that h) = go (new-row-either flash body (h .row) (ℕ-discrete (h .row) r) (h .live))
+  image-stands body e quiet (that h) = go (new-row-either AtFlash body (h .row) (ℕ-discrete (h .row) r) (h .live))
     where
-      go : Or ((Live (h .row) x) × (inRow (h .row) .get (opened flash r b flags clean t body x .1) ≡ inRow (h .row) .get x)) (statusOf (inRow (h .row) .get (opened flash r b flags clean t body x .1)) ≡ untried) → ⊥
+      go : Or ((Live (h .row) x) × (inRow (h .row) .get (opened AtFlash r b flags clean t body x .1) ≡ inRow (h .row) .get x)) (statusOf (inRow (h .row) .get (opened AtFlash r b flags clean t body x .1)) ≡ untried) → ⊥
       go (this f) = no-flash-row x quiet (h .row) (f .0) (let z : blob (h .row) x ≡ verifyBlob = sym (ap blobOf (f .1)) ∙ h .on-verify in omega arith)
       go (that f) = let z = h .status-is in omega arith
 
@@ -532,10 +534,10 @@ flashed : (k : FlashKind) (flags t : ℕ) (x : State) → Sound x → Flashed k 
 flashed k flags t x g = open-flash-has (Flashed k x) x (flashed-refused k x) k flags t free
   where
     free : (r : ℕ) → flashFlags flags ≡ true → flashListed k (x .flashGroup .phase) ≡ true → rowFound OnFlash x ≡ none → freeRowIn x ≡ some r
-        → Flashed k x (opened flash r (flashNumber k) writeOnly 0 t (openedFlash k (x .flashGroup)) x)
+        → Flashed k x (opened AtFlash r (flashNumber k) writeOnly 0 t (openedFlash k (x .flashGroup)) x)
     free r f l q e = record {
       opening = opening-flash x g r (free-row x r e) (flashNumber k) writeOnly 0 t (omega arith) (omega arith) (openedFlash k (x .flashGroup)) (opened-phase k (x .flashGroup));
-      image-fails = λ (i : k ≡ Image) (h : Stands (opened flash r (flashNumber k) writeOnly 0 t (openedFlash k (x .flashGroup)) x .1)).
+      image-fails = λ (i : k ≡ Image) (h : Stands (opened AtFlash r (flashNumber k) writeOnly 0 t (openedFlash k (x .flashGroup)) x .1)).
           absurd (image-stands x g r (free-row x r e) (flashNumber k) writeOnly 0 t (omega arith) (omega arith) (openedFlash k (x .flashGroup))
           (ap (λ (j : FlashKind). openedFlash j (x .flashGroup) .phase) i ∙ image-phase (x .flashGroup)) q h);
     }
@@ -576,12 +578,12 @@ deleted-moves : (b : Blob) (m : List ℕ) (s : State) → Moves false s (deleteB
 unfolding deleteBlob deleteStore
 deleted-moves (Store at len) m s =
     some-has (λ (x : Reply × State). Moves false s (x .1)) (slotNamed (part at len m) s) (refused notFound, s) _ (moves-same s)
-    (λ (k : ℕ) _. none-has (λ (x : Reply × State). Moves false s (x .1)) (rowFound (OnBlob k) s) (refused busy, s) (done, inBody (slot k) .put freeSlot s) (moves-same s) (λ _. put k))
+    (λ (k : ℕ) _. none-has (λ (x : Reply × State). Moves false s (x .1)) (rowFound (OnBlob k) s) (refused busy, s) (done, inBody (AtSlot k) .put freeSlot s) (moves-same s) (λ _. put k))
   where
-    put : (k : ℕ) → Moves false s (inBody (slot k) .put freeSlot s)
+    put : (k : ℕ) → Moves false s (inBody (AtSlot k) .put freeSlot s)
     put k = record { rows-from = λ x l n. (l, refl); stands-kept = λ h. (refl, go h) }
       where
-        go : Stands (inBody (slot k) .put freeSlot s) → Stands s
+        go : Stands (inBody (AtSlot k) .put freeSlot s) → Stands s
         go (this e) = this e
         go (that e) = that (record { row = e .row; live = e .live; on-verify = e .on-verify; status-is = e .status-is })
 deleted-moves (Flash k) m s = moves-same s

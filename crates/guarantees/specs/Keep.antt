@@ -23,7 +23,9 @@ use Rattle.protocol.specs.declared.Blob.the-variants.{Store, Flash, Base, Unkno
 use Rattle.protocol.specs.declared.Request.{Request}
 use Rattle.protocol.specs.declared.Request.the-variants.{Count, Enumerate, Open, Read, Write, Commit, Close, Delete, Stat, SessionStat, WriteMeta, Refused}
 use Rattle.state.specs.declared.Phase.the-variants.{Idle, Uploading}
-use Rattle.state.specs.State.{State, Slot, FlashBody, Place, slot, flash, Body, placeOf, inRow, inBody, cell}
+use Rattle.state.specs.declared.row.Place.{Place}
+use Rattle.state.specs.declared.row.Place.the-variants.{AtSlot, AtFlash}
+use Rattle.state.specs.State.{State, Slot, FlashBody, Body, placeOf, inRow, inBody, cell}
 use Rattle.state.specs.Parts.{Separate, FitsSlot, FitsBody, body-shape, body-get-put, row-body, body-indep, body-view-fits}
 use Rattle.state.specs.Words.{wordOf, ident, blob, inUse, Live, freeSlot, wordWith, flagsIn, statusIn, cleanIn, writingIn, storeFlags, writesWith, writeBit, store-flags, store-reads, store-writes}
 use Rattle.state.specs.Soundness.{slotAt, isSound}
@@ -99,21 +101,21 @@ opened-sound s g r low free p b flags clean t body at alone fits ses named =
     (added-sound s g r low free p row body refl refl at alone fits (ses small) (λ (q : ℕ) (l : Live q s). fresh-unused s (g .shape .next-small) q l) named)
 
 -- ---- places without a session
-alone-slot : (k : ℕ) (s : State) → k < slotCount → ((q : ℕ) → Live q s → blob q s ≢ k) → (q : ℕ) → Live q s → Separate (placeOf (blob q s)) (slot k)
+alone-slot : (k : ℕ) (s : State) → k < slotCount → ((q : ℕ) → Live q s → blob q s ≢ k) → (q : ℕ) → Live q s → Separate (placeOf (blob q s)) (AtSlot k)
 alone-slot k s h f q l = subst (λ (w : Place). Separate (placeOf (blob q s)) w) (place-slot k h) (blobs-apart (blob q s) k (f q l) (λ (x : slotCount ≤ blob q s) (y : slotCount ≤ k). omega arith))
 
-alone-flash : (s : State) → ((q : ℕ) → Live q s → slotCount ≤ blob q s → ⊥) → (q : ℕ) → Live q s → Separate (placeOf (blob q s)) flash
+alone-flash : (s : State) → ((q : ℕ) → Live q s → slotCount ≤ blob q s → ⊥) → (q : ℕ) → Live q s → Separate (placeOf (blob q s)) AtFlash
 alone-flash s f q l = go (ltb (blob q s) slotCount) refl
   where
-    go : (y : Bool) → ltb (blob q s) slotCount ≡ y → Separate (cond y (slot (blob q s)) flash) flash
+    go : (y : Bool) → ltb (blob q s) slotCount ≡ y → Separate (cond y (AtSlot (blob q s)) AtFlash) AtFlash
     go true e = tt
     go false e = f q l (ltb-false _ _ e)
 
 -- a slot that is not used has no session
-unused-alone : (k : ℕ) (s : State) → Sound s → k < slotCount → slotAt k s .held ≡ 0 → (q : ℕ) → Live q s → Separate (placeOf (blob q s)) (slot k)
-unused-alone k s g h z q l = go (place-cases (placeOf (blob q s)) (slot k))
+unused-alone : (k : ℕ) (s : State) → Sound s → k < slotCount → slotAt k s .held ≡ 0 → (q : ℕ) → Live q s → Separate (placeOf (blob q s)) (AtSlot k)
+unused-alone k s g h z q l = go (place-cases (placeOf (blob q s)) (AtSlot k))
   where
-    go : (placeOf (blob q s) ≡ slot k) ⊎ Separate (placeOf (blob q s)) (slot k) → Separate (placeOf (blob q s)) (slot k)
+    go : (placeOf (blob q s) ≡ AtSlot k) ⊎ Separate (placeOf (blob q s)) (AtSlot k) → Separate (placeOf (blob q s)) (AtSlot k)
     go (inl e) = absurd (
         let f : StoreFacts k (ident q s) (blob q s) (wordOf (inRow q .get s)) (slotAt k s) = subst (λ (w : Place). Session w (inRow q .get s) (inBody w .get s)) e (g .session q l) in
         let u = f .is-held in omega arith)
@@ -121,9 +123,9 @@ unused-alone k s g h z q l = go (place-cases (placeOf (blob q s)) (slot k))
 
 -- ---- Open, of a store name
 new-sound : (n : List ℕ) (t r k : ℕ) (s : State) → Sound s → storeName n ≡ true → slotNamed n s ≡ none → (r < rowCount) × (inRow r .get s .used ≡ 0) → (k < slotCount) × (slotAt k s .held ≡ 0)
-    → Sound (opened (slot k) r k readWrite 0 t (newSlot n) s .1)
+    → Sound (opened (AtSlot k) r k readWrite 0 t (newSlot n) s .1)
 new-sound n t r k s g nm none-held fr fs =
-    opened-sound s g r (fr .0) (fr .1) (slot k) k readWrite 0 t (newSlot n) (place-slot k (fs .0)) (unused-alone k s g (fs .0) (fs .1))
+    opened-sound s g r (fr .0) (fr .1) (AtSlot k) k readWrite 0 t (newSlot n) (place-slot k (fs .0)) (unused-alone k s g (fs .0) (fs .1))
     (fs .0, record { name-long = padded-length nameSize n; committed-long = length-replicate slotSize 0; staged-long = length-replicate slotSize 0; held-flag = omega arith; mark-flag = omega arith })
     (λ (sm : freshId s < sixteenBits). record {
       id-small = sm;
@@ -144,17 +146,17 @@ new-sound n t r k s g nm none-held fr fs =
     (λ (l : ℕ) (h : l < slotCount) (m : k ≢ l) (u : slotAt l s .held ≡ 1). no-name n s none-held l h u)
 
 held-sound : (flags t r k : ℕ) (s : State) → Sound s → Or (flags ≡ readOnly) (flags ≡ readWrite) → (r < rowCount) × (inRow r .get s .used ≡ 0) → (k < slotCount) × (slotAt k s .held ≡ 1)
-    → rowFound (OnBlob k) s ≡ none → Sound (opened (slot k) r k flags 1 t (heldSlot flags (slotAt k s)) s .1)
+    → rowFound (OnBlob k) s ≡ none → Sound (opened (AtSlot k) r k flags 1 t (heldSlot flags (slotAt k s)) s .1)
 held-sound flags t r k s g fl fr fs quiet = go fl
   where
-    lone : (q : ℕ) → Live q s → Separate (placeOf (blob q s)) (slot k)
+    lone : (q : ℕ) → Live q s → Separate (placeOf (blob q s)) (AtSlot k)
     lone = alone-slot k s (fs .0) (no-row-on k s quiet)
 
     idle : StoreIdle (slotAt k s)
-    idle = g .loose (slot k) (fs .0) lone
+    idle = g .loose (AtSlot k) (fs .0) lone
 
     fit : FitsSlot (slotAt k s)
-    fit = body-view-fits (slot k) s (fs .0) (g .shape) .1
+    fit = body-view-fits (AtSlot k) s (fs .0) (g .shape) .1
 
     marked : slotAt k s .mark ≡ 1
     marked = sym (idle .held-marked) ∙ fs .1
@@ -182,8 +184,8 @@ held-sound flags t r k s g fl fr fs quiet = go fl
     others : (l : ℕ) → l < slotCount → k ≢ l → slotAt l s .held ≡ 1 → slotAt k s .name ≢ slotAt l s .name
     others l h m u = g .names-differ k l (fs .0) h m (fs .1) u
 
-    reader : Sound (opened (slot k) r k readOnly 1 t (heldSlot readOnly (slotAt k s)) s .1)
-    reader = opened-sound s g r (fr .0) (fr .1) (slot k) k readOnly 1 t (slotAt k s) (place-slot k (fs .0)) lone (fs .0, fit)
+    reader : Sound (opened (AtSlot k) r k readOnly 1 t (heldSlot readOnly (slotAt k s)) s .1)
+    reader = opened-sound s g r (fr .0) (fr .1) (AtSlot k) k readOnly 1 t (slotAt k s) (place-slot k (fs .0)) lone (fs .0, fit)
         (λ (sm : freshId s < sixteenBits). facts readOnly sm (slotAt k s) store-reads refl (omega arith) refl (fs .1) marked (idle .idle-committed) (let z = idle .idle-staged in omega arith)
         (λ (z : _≡_ {A = ℕ} 0 0). idle .idle-staged) refl)
         others
@@ -191,15 +193,15 @@ held-sound flags t r k s g fl fr fs quiet = go fl
     copy : Slot
     copy = withStaged (slotAt k s .committedBytes) (slotAt k s .committedLen) (slotAt k s)
 
-    writer : Sound (opened (slot k) r k readWrite 1 t (heldSlot readWrite (slotAt k s)) s .1)
-    writer = opened-sound s g r (fr .0) (fr .1) (slot k) k readWrite 1 t copy (place-slot k (fs .0)) lone
+    writer : Sound (opened (AtSlot k) r k readWrite 1 t (heldSlot readWrite (slotAt k s)) s .1)
+    writer = opened-sound s g r (fr .0) (fr .1) (AtSlot k) k readWrite 1 t copy (place-slot k (fs .0)) lone
         (fs .0, record { name-long = fit .name-long; committed-long = fit .committed-long; staged-long = fit .committed-long; held-flag = fit .held-flag; mark-flag = fit .mark-flag })
         (λ (sm : freshId s < sixteenBits). facts readWrite sm copy store-writes refl (omega arith) refl (fs .1) marked (idle .idle-committed) (idle .idle-committed) (λ (z : _≡_ {A = ℕ} 1 0). absurd (omega arith)) refl)
         others
 
-    go : Or (flags ≡ readOnly) (flags ≡ readWrite) → Sound (opened (slot k) r k flags 1 t (heldSlot flags (slotAt k s)) s .1)
-    go (this e) = subst (λ (f : ℕ). Sound (opened (slot k) r k f 1 t (heldSlot f (slotAt k s)) s .1)) (sym e) reader
-    go (that e) = subst (λ (f : ℕ). Sound (opened (slot k) r k f 1 t (heldSlot f (slotAt k s)) s .1)) (sym e) writer
+    go : Or (flags ≡ readOnly) (flags ≡ readWrite) → Sound (opened (AtSlot k) r k flags 1 t (heldSlot flags (slotAt k s)) s .1)
+    go (this e) = subst (λ (f : ℕ). Sound (opened (AtSlot k) r k f 1 t (heldSlot f (slotAt k s)) s .1)) (sym e) reader
+    go (that e) = subst (λ (f : ℕ). Sound (opened (AtSlot k) r k f 1 t (heldSlot f (slotAt k s)) s .1)) (sym e) writer
 
 -- a state that is sound behind a reply
 abbrev Kept : Reply × State → Type 0
@@ -212,11 +214,11 @@ writing flags (that e) w = e
 open-store-sound : (n : List ℕ) (flags t : ℕ) (s : State) → Sound s → storeName n ≡ true → Sound (openStore n flags t s .1)
 open-store-sound n flags t s g nm = open-store-has Kept s (λ _ _. g) n flags t held new
   where
-    held : (r k : ℕ) → storeFlags flags ≡ true → slotNamed n s ≡ some k → rowFound (OnBlob k) s ≡ none → freeRowIn s ≡ some r → Kept (opened (slot k) r k flags 1 t (heldSlot flags (slotAt k s)) s)
+    held : (r k : ℕ) → storeFlags flags ≡ true → slotNamed n s ≡ some k → rowFound (OnBlob k) s ≡ none → freeRowIn s ≡ some r → Kept (opened (AtSlot k) r k flags 1 t (heldSlot flags (slotAt k s)) s)
     held r k f e quiet i = let a = named-slot n s k e in held-sound flags t r k s g (store-flags flags f) (free-row s r i) (a .0, a .1) quiet
 
-    new : (r k : ℕ) → storeFlags flags ≡ true → slotNamed n s ≡ none → writesWith flags ≡ true → freeRowIn s ≡ some r → freeSlotIn s ≡ some k → Kept (opened (slot k) r k flags 0 t (newSlot n) s)
-    new r k f e w i j = subst (λ (x : ℕ). Kept (opened (slot k) r k x 0 t (newSlot n) s)) (sym (writing flags (store-flags flags f) w)) (new-sound n t r k s g nm e (free-row s r i) (free-slot s k j))
+    new : (r k : ℕ) → storeFlags flags ≡ true → slotNamed n s ≡ none → writesWith flags ≡ true → freeRowIn s ≡ some r → freeSlotIn s ≡ some k → Kept (opened (AtSlot k) r k flags 0 t (newSlot n) s)
+    new r k f e w i j = subst (λ (x : ℕ). Kept (opened (AtSlot k) r k x 0 t (newSlot n) s)) (sym (writing flags (store-flags flags f) w)) (new-sound n t r k s g nm e (free-row s r i) (free-slot s k j))
 
 -- ---- Open, of a flash name
 kind-of-number : (k : FlashKind) → kindOf (flashNumber k) ≡ k
@@ -259,9 +261,9 @@ opened-idle Update b f = f
 opened-idle Cleanup b f = f
 
 flash-sound : (k : FlashKind) (t r : ℕ) (s : State) → Sound s → flashListed k (s .flashGroup .phase) ≡ true → rowFound OnFlash s ≡ none → (r < rowCount) × (inRow r .get s .used ≡ 0)
-    → Sound (opened flash r (flashNumber k) writeOnly 0 t (openedFlash k (s .flashGroup)) s .1)
+    → Sound (opened AtFlash r (flashNumber k) writeOnly 0 t (openedFlash k (s .flashGroup)) s .1)
 flash-sound k t r s g listed quiet fr =
-    opened-sound s g r (fr .0) (fr .1) flash (flashNumber k) writeOnly 0 t (openedFlash k (s .flashGroup)) (place-flash (flashNumber k) (number-high k .0)) (alone-flash s (no-flash-row s quiet))
+    opened-sound s g r (fr .0) (fr .1) AtFlash (flashNumber k) writeOnly 0 t (openedFlash k (s .flashGroup)) (place-flash (flashNumber k) (number-high k .0)) (alone-flash s (no-flash-row s quiet))
     (opened-sized k (s .flashGroup) (g .shape .image-size, g .shape .hash-size))
     (λ (sm : freshId s < sixteenBits). record {
       id-small = sm;
@@ -285,11 +287,11 @@ open-sound Base flags t m s nm g = g
 open-sound Unknown flags t m s nm g = g
 
 -- ---- Delete
-deleted-sound : (k : ℕ) (s : State) → Sound s → k < slotCount → rowFound (OnBlob k) s ≡ none → Sound (inBody (slot k) .put freeSlot s)
-deleted-sound k s g low quiet = change-sound s s′ rowCount (slot k) g (record {
-  new-shape = body-shape (slot k) freeSlot s (low, freed-fits) (g .shape);
-  rows-kept = λ (r : ℕ) (n : r ≢ rowCount). row-body r (slot k) .seen freeSlot s;
-  bodies-kept = λ (w : Place) (m : Separate (slot k) w). body-indep (slot k) w m .sees freeSlot s;
+deleted-sound : (k : ℕ) (s : State) → Sound s → k < slotCount → rowFound (OnBlob k) s ≡ none → Sound (inBody (AtSlot k) .put freeSlot s)
+deleted-sound k s g low quiet = change-sound s s′ rowCount (AtSlot k) g (record {
+  new-shape = body-shape (AtSlot k) freeSlot s (low, freed-fits) (g .shape);
+  rows-kept = λ (r : ℕ) (n : r ≢ rowCount). row-body r (AtSlot k) .seen freeSlot s;
+  bodies-kept = λ (w : Place) (m : Separate (AtSlot k) w). body-indep (AtSlot k) w m .sees freeSlot s;
   others = λ (r : ℕ) (l : Live r s) (n : r ≢ rowCount). alone-slot k s low (no-row-on k s quiet) r l;
   before = λ (l : Live rowCount s). absurd (past (l .0));
   now-at = λ (l : Live rowCount s′). absurd (past (l .0));
@@ -297,25 +299,25 @@ deleted-sound k s g low quiet = change-sound s s′ rowCount (slot k) g (record 
   now-id = λ (l : Live rowCount s′) (r : ℕ) (v : Live r s) (n : r ≢ rowCount). absurd (past (l .0));
   now-free = λ (h : rowCount < rowCount) (u : inRow rowCount .get s′ .used ≡ 0). absurd (omega arith);
   now-loose = λ (f : Live rowCount s′ → ⊥). subst StoreIdle (sym emptied) free-idle;
-  now-named = λ (j l : ℕ) (e : slot k ≡ slot j) (hj : j < slotCount) (hl : l < slotCount) (n : j ≢ l) (a : slotAt j s′ .held ≡ 1) (h : slotAt l s .held ≡ 1).
+  now-named = λ (j l : ℕ) (e : AtSlot k ≡ AtSlot j) (hj : j < slotCount) (hl : l < slotCount) (n : j ≢ l) (a : slotAt j s′ .held ≡ 1) (h : slotAt l s .held ≡ 1).
       absurd (let q : k ≡ j = cc in let z : slotAt j s′ .held ≡ 0 = subst (λ (x : ℕ). slotAt x s′ .held ≡ 0) q (ap (λ (b : Slot). b .held) emptied) in omega arith);
 })
   where
     s′ : State
-    s′ = inBody (slot k) .put freeSlot s
+    s′ = inBody (AtSlot k) .put freeSlot s
 
     past : rowCount < rowCount → ⊥
     past h = omega arith
 
     emptied : slotAt k s′ ≡ freeSlot
-    emptied = body-get-put (slot k) freeSlot s (g .shape) (low, freed-fits)
+    emptied = body-get-put (AtSlot k) freeSlot s (g .shape) (low, freed-fits)
 
 delete-sound : (b : Blob) (m : List ℕ) (s : State) → Sound s → Sound (deleteBlob b m s .1)
 unfolding deleteBlob deleteStore
 delete-sound (Store at len) m s g =
     some-has Kept (slotNamed n s) (refused notFound, s) _ g
     (λ (k : ℕ) (e : slotNamed n s ≡ some k).
-    none-has Kept (rowFound (OnBlob k) s) (refused busy, s) (done, inBody (slot k) .put freeSlot s) g (deleted-sound k s g (named-slot n s k e .0)))
+    none-has Kept (rowFound (OnBlob k) s) (refused busy, s) (done, inBody (AtSlot k) .put freeSlot s) g (deleted-sound k s g (named-slot n s k e .0)))
   where
     n : List ℕ
     n = part at len m

@@ -17,7 +17,9 @@ use Rattle.protocol.specs.Decode.{decoded, numberOf}
 use Rattle.protocol.specs.Frame.{Reply, refused, Answer, framed}
 use Rattle.protocol.specs.declared.Request.{Request}
 use Rattle.protocol.specs.declared.Request.the-variants.{Count, Enumerate, Open, Read, Write, Commit, Close, Delete, Stat, SessionStat, WriteMeta, Refused}
-use Rattle.state.specs.State.{State, Row, Place, slot, flash, Body, placeOf, inRow, inBody, cell}
+use Rattle.state.specs.declared.row.Place.{Place}
+use Rattle.state.specs.declared.row.Place.the-variants.{AtSlot, AtFlash}
+use Rattle.state.specs.State.{State, Row, Body, placeOf, inRow, inBody, cell}
 use Rattle.state.specs.Parts.{InRange, cell-indep, cell-steady, FitsRow, FitsBody, row-view-fits, body-view-fits}
 use Rattle.state.specs.Words.{ident, blob, Live}
 use Rattle.state.specs.Soundness.{isSound}
@@ -92,14 +94,14 @@ Mine s i e = Live i s × Names s i (deed e)
 -- ---- what a command does on its own part is proper
 pub proper : (p : Place) (t : ℕ) (c : Command) (r : Row) (b : Body p) → FitsRow r → FitsBody p b → r .used ≡ 1 → Session p r b
     → Proper p r (onPart p t c r b .1 .0) b (onPart p t c r b .1 .1)
-proper (slot k) t c r b fr fb u ses = proper-store k (fb .0) r b fr (fb .1) u ses t c
-proper flash t c r b fr fb u ses = proper-flash r b fr (fb .0) (fb .1) u ses t c
+proper (AtSlot k) t c r b fr fb u ses = proper-store k (fb .0) r b fr (fb .1) u ses t c
+proper AtFlash t c r b fr fb u ses = proper-flash r b fr (fb .0) (fb .1) u ses t c
 
 -- a blob is somewhere
 pub in-range : (b : ℕ) → InRange (placeOf b)
 in-range b = go (ltb b slotCount) refl
   where
-    go : (y : Bool) → ltb b slotCount ≡ y → InRange (cond y (slot b) flash)
+    go : (y : Bool) → ltb b slotCount ≡ y → InRange (cond y (AtSlot b) AtFlash)
     go true q = ltb-true b slotCount q
     go false q = tt
 

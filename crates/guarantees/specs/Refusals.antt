@@ -18,7 +18,9 @@ use Rattle.protocol.specs.declared.Blob.{Blob}
 use Rattle.protocol.specs.declared.Blob.the-variants.{Store, Flash, Base, Unknown}
 use Rattle.protocol.specs.declared.Request.{Request}
 use Rattle.protocol.specs.declared.Request.the-variants.{Count, Enumerate, Open, Read, Write, Commit, Close, Delete, Stat, SessionStat, WriteMeta, Refused}
-use Rattle.state.specs.State.{State, Row, Slot, FlashBody, Place, slot, flash, Body, placeOf, inRow, inBody, cell}
+use Rattle.state.specs.declared.row.Place.{Place}
+use Rattle.state.specs.declared.row.Place.the-variants.{AtSlot, AtFlash}
+use Rattle.state.specs.State.{State, Row, Slot, FlashBody, Body, placeOf, inRow, inBody, cell}
 use Rattle.state.specs.Parts.{cell-steady}
 use Rattle.state.specs.Words.{blobOf, statusOf, writes, blob, freeSlot}
 use Rattle.state.specs.Soundness.{isSound, slotAt}
@@ -137,8 +139,8 @@ module _ (r : Row) (b : FlashBody) where
   keep-flash k t (endJob g) = keep-job (eqb (statusOf r) running) g
 
 keep-part : (p : Place) (t : ℕ) (c : Command) (r : Row) (b : Body p) → Keeps (r, b) (onPart p t c r b)
-keep-part (slot k) t c r b = keep-store r b t c
-keep-part flash t c r b = keep-flash r b (kindOf (blobOf r)) t c
+keep-part (AtSlot k) t c r b = keep-store r b t c
+keep-part AtFlash t c r b = keep-flash r b (kindOf (blobOf r)) t c
 
 -- ---- the state
 keep-place : (p : Place) (r t : ℕ) (c : Command) (s : State) → Keeps s (onPlace p r t c s)
@@ -158,12 +160,12 @@ keep-opened p r b flags clean t body s h = absurd h
 
 keep-open-store : (n : List ℕ) (flags t : ℕ) (s : State) → Keeps s (openStore n flags t s)
 keep-open-store n flags t s =
-    open-store-has (Keeps s) s (λ _ _ h. refl) n flags t (λ (r k : ℕ) _ _ _ _. keep-opened (slot k) r k flags 1 t (heldSlot flags (slotAt k s)) s)
-    (λ (r k : ℕ) _ _ _ _ _. keep-opened (slot k) r k flags 0 t (newSlot n) s)
+    open-store-has (Keeps s) s (λ _ _ h. refl) n flags t (λ (r k : ℕ) _ _ _ _. keep-opened (AtSlot k) r k flags 1 t (heldSlot flags (slotAt k s)) s)
+    (λ (r k : ℕ) _ _ _ _ _. keep-opened (AtSlot k) r k flags 0 t (newSlot n) s)
 
 keep-open-flash : (k : FlashKind) (flags t : ℕ) (s : State) → Keeps s (openFlash k flags t s)
 keep-open-flash k flags t s =
-    open-flash-has (Keeps s) s (λ _ _ h. refl) k flags t (λ (r : ℕ) _ _ _ _. keep-opened flash r (flashNumber k) writeOnly 0 t (openedFlash k (s .flashGroup)) s)
+    open-flash-has (Keeps s) s (λ _ _ h. refl) k flags t (λ (r : ℕ) _ _ _ _. keep-opened AtFlash r (flashNumber k) writeOnly 0 t (openedFlash k (s .flashGroup)) s)
 
 keep-open : (b : Blob) (flags t : ℕ) (m : List ℕ) (s : State) → Keeps s (openBlob b flags t m s)
 unfolding openBlob
@@ -176,7 +178,7 @@ keep-delete : (b : Blob) (m : List ℕ) (s : State) → Keeps s (deleteBlob b m 
 unfolding deleteBlob deleteStore
 keep-delete (Store at len) m s =
     some-has (Keeps s) (slotNamed (part at len m) s) (refused notFound, s) _ (λ h. refl)
-    (λ (k : ℕ) _. none-has (Keeps s) (rowFound (OnBlob k) s) (refused busy, s) (done, inBody (slot k) .put freeSlot s) (λ h. refl) (λ _ h. absurd h))
+    (λ (k : ℕ) _. none-has (Keeps s) (rowFound (OnBlob k) s) (refused busy, s) (done, inBody (AtSlot k) .put freeSlot s) (λ h. refl) (λ _ h. absurd h))
 keep-delete (Flash k) m s = λ h. refl
 keep-delete Base m s = λ h. refl
 keep-delete Unknown m s = λ h. refl

@@ -14,7 +14,9 @@ use Rattle.protocol.specs.Decode.{decoded, numberOf, fieldsAt}
 use Rattle.protocol.specs.Frame.{Reply, done, reply, framed}
 use Rattle.protocol.specs.declared.Request.{Request}
 use Rattle.protocol.specs.declared.Request.the-variants.{Read, Write, Close, SessionStat}
-use Rattle.state.specs.State.{State, Row, Slot, Place, slot, flash, Body, placeOf, inRow, inBody, cell}
+use Rattle.state.specs.declared.row.Place.{Place}
+use Rattle.state.specs.declared.row.Place.the-variants.{AtSlot, AtFlash}
+use Rattle.state.specs.State.{State, Row, Slot, Body, placeOf, inRow, inBody, cell}
 use Rattle.state.specs.Parts.{FitsSlot, FitsRow, cell-get-put, row-view-fits, body-view-fits}
 use Rattle.state.specs.Words.{idOf, blobOf, statusOf, writes, ident, blob, Live, stamped, stampOf, statusIn}
 use Rattle.state.specs.Soundness.{slotAt, isSound}
@@ -44,8 +46,8 @@ asked-of t i m q c s g l d e =
 
 -- an identifier has two bytes
 id-small : (p : Place) (r : Row) (b : Body p) → Session p r b → idOf r < sixteenBits
-id-small (slot k) r b ses = ses .id-small
-id-small flash r b ses = ses .id-small
+id-small (AtSlot k) r b ses = ses .id-small
+id-small AtFlash r b ses = ses .id-small
 
 live-id : (i : ℕ) (s : State) → Sound s → Live i s → ident i s < sixteenBits
 live-id i s g l = id-small (placeOf (blob i s)) (inRow i .get s) (inBody (placeOf (blob i s)) .get s) (g .session i l)
@@ -99,7 +101,7 @@ module _ (n t u i offset : ℕ) (ws : List ℕ) (s : State) (h : Writes n i s) (
   out = onStore t (write offset ws) r b
 
   abbrev s′ : State
-  s′ = onPlace (slot (blob i s)) i t (write offset ws) s .1
+  s′ = onPlace (AtSlot (blob i s)) i t (write offset ws) s .1
 
   g : Sound s
   g = sound-of-test s (h .session .is-sound)
@@ -107,14 +109,14 @@ module _ (n t u i offset : ℕ) (ws : List ℕ) (s : State) (h : Writes n i s) (
   l : Live i s
   l = h .session .is-live
 
-  on-slot : placeOf (blob i s) ≡ slot (blob i s)
+  on-slot : placeOf (blob i s) ≡ AtSlot (blob i s)
   on-slot = place-slot (blob i s) (h .session .on-store)
 
   row-fits : FitsRow r
   row-fits = row-view-fits i s (l .0) (g .shape)
 
   body-fits : (blob i s < slotCount) × FitsSlot b
-  body-fits = body-view-fits (slot (blob i s)) s (h .session .on-store) (g .shape)
+  body-fits = body-view-fits (AtSlot (blob i s)) s (h .session .on-store) (g .shape)
 
   taken : out ≡ stored ws t offset r b
   taken = accepts t offset ws r b (h .writing) (let e : seenLength true b ≡ n = sym (ap (λ (y : Bool). seenLength y b) (h .writing)) ∙ h .session .sees in omega arith) fits
@@ -125,11 +127,11 @@ module _ (n t u i offset : ℕ) (ws : List ℕ) (s : State) (h : Writes n i s) (
   goes-on : out .1 .0 .used ≡ 1
   goes-on = ap (λ (o : Out Slot). o .1 .0 .used) taken ∙ stored-on ws t offset r b .1 ∙ l .1
 
-  fine : Proper (slot (blob i s)) r (out .1 .0) b (out .1 .1)
-  fine = proper (slot (blob i s)) t (write offset ws) r b row-fits body-fits (l .1) (subst (λ (p : Place). Session p (inRow i .get s) (inBody p .get s)) on-slot (g .session i l))
+  fine : Proper (AtSlot (blob i s)) r (out .1 .0) b (out .1 .1)
+  fine = proper (AtSlot (blob i s)) t (write offset ws) r b row-fits body-fits (l .1) (subst (λ (p : Place). Session p (inRow i .get s) (inBody p .get s)) on-slot (g .session i l))
 
-  part-now : cell i (slot (blob i s)) .get s′ ≡ out .1
-  part-now = cell-get-put i (slot (blob i s)) (out .1) s (l .0) (g .shape) (fine .row-fits) (fine .body-fits)
+  part-now : cell i (AtSlot (blob i s)) .get s′ ≡ out .1
+  part-now = cell-get-put i (AtSlot (blob i s)) (out .1) s (l .0) (g .shape) (fine .row-fits) (fine .body-fits)
 
   row-now : inRow i .get s′ ≡ out .1 .0
   row-now = ap (λ (c : Row × Slot). c .0) part-now
@@ -143,7 +145,7 @@ module _ (n t u i offset : ℕ) (ws : List ℕ) (s : State) (h : Writes n i s) (
   live-now : Live i s′
   live-now = (l .0, ap (λ (x : Row). x .used) row-now ∙ goes-on)
 
-  place-is : onRow i t (write offset ws) s ≡ onPlace (slot (blob i s)) i t (write offset ws) s
+  place-is : onRow i t (write offset ws) s ≡ onPlace (AtSlot (blob i s)) i t (write offset ws) s
   place-is = ap (λ (p : Place). onPlace p i t (write offset ws) s) on-slot
 
   good-now : Sound s′
@@ -178,13 +180,13 @@ module _ (n t u i offset : ℕ) (ws : List ℕ) (s : State) (h : Writes n i s) (
 -- ---- SessionStat, then Close
 stat-on : (p : Place) (t : ℕ) (r : Row) (b : Body p) → (framed sessionStatCommand (onPart p t stat r b .0) .0 ≡ success) × (onPart p t stat r b .1 .0 ≡ stamped t r)
 unfolding onStore onFlash framed
-stat-on (slot k) t r b = (refl, refl)
-stat-on flash t r b = (refl, refl)
+stat-on (AtSlot k) t r b = (refl, refl)
+stat-on AtFlash t r b = (refl, refl)
 
 close-on : (p : Place) (t : ℕ) (r : Row) (b : Body p) → statusOf r ≢ running → framed closeCommand (onPart p t close r b .0) .0 ≡ success
 unfolding onStore onFlash closeFlash framed
-close-on (slot k) t r b n = refl
-close-on flash t r b n = ap (λ (y : Bool). framed closeCommand (closeFlash y (kindOf (blobOf r)) r b .0) .0) (ne-eqb (statusOf r) running n)
+close-on (AtSlot k) t r b n = refl
+close-on AtFlash t r b n = ap (λ (y : Bool). framed closeCommand (closeFlash y (kindOf (blobOf r)) r b .0) .0) (ne-eqb (statusOf r) running n)
 
 stat-asked : (t i : ℕ) (s : State) → Sound s → Live i s → respond t (askSessionStat (ident i s)) s ≡ effectOf (framed sessionStatCommand (onRow i t stat s .0)) (onRow i t stat s .1)
 unfolding answered

@@ -10,7 +10,8 @@ use lib.Seq.{sets, length-sets, getD-set-other, getD-set-same}
 use lib.Dec.{eqb}
 use borrow.Author.Tests.{eqb-true, eqb-false}
 use Rattle.protocol.specs.Numbers.{rowWords, statusUnit, slotCount, nameSize, slotSize}
-use Rattle.state.specs.State.{Row, Slot, slot}
+use Rattle.state.specs.declared.row.Place.the-variants.{AtSlot}
+use Rattle.state.specs.State.{Row, Slot}
 use Rattle.state.specs.Parts.{FitsRow, FitsSlot}
 use Rattle.state.specs.Words.{idOf, blobOf, wordOf, stampOf, flagsIn, statusIn, cleanIn, writingIn, wordWith, writes, stamped, withClean, freeRow, freeSlot, flags-with, status-with, clean-with, word-with}
 use Rattle.state.specs.Facts.{StoreFacts, StoreSession, StoreIdle}
@@ -27,7 +28,7 @@ freed-fits = record
 
 module _ (k : ℕ) (low : k < slotCount) (r : Row) (b : Slot) (fr : FitsRow r) (fb : FitsSlot b) (on : r .used ≡ 1) (ses : StoreSession k r b) where
   abbrev Fine : Row × Slot → Type 0
-  Fine c = Proper (slot k) r (c .0) b (c .1)
+  Fine c = Proper (AtSlot k) r (c .0) b (c .1)
 
   -- the session goes on
   going : (q : Row) (d : Slot) → length (q .words) ≡ rowWords → q .used ≡ 1 → FitsSlot d → idOf q ≡ idOf r → blobOf q ≡ blobOf r → d .name ≡ b .name → StoreSession k q d → Fine (q, d)

@@ -6,7 +6,8 @@ ghost use lib.ListN.{length, replicate};
 ghost use Rattle.laws.specs.Ranges.{part, block};
 ghost use Rattle.laws.specs.Bytes.{padded};
 ghost use Rattle.protocol.specs.Numbers.{slotCount, nameSize, slotSize};
-ghost use Rattle.state.specs.State.{stateOf, inBody, slot};
+ghost use Rattle.state.specs.declared.row.Place.the-variants.{AtSlot};
+ghost use Rattle.state.specs.State.{stateOf, inBody};
 ghost use Rattle.state.specs.Words.{freeSlot};
 ghost use Rattle.state.specs.Lent.{NamesLent, RegionsLent};
 use memory_copy::clear_at;
@@ -62,7 +63,7 @@ pub fn free_slot(
     staged: &mut [u8],
 ) -> Control
     requires { ⌜ (k < slotCount) × (NamesLent (now names) × (RegionsLent (now committed) × RegionsLent (now staged))) ⌝ }
-    ensures { λ v. ⌜ ((table image hash : List ℕ) → stateOf v table (now (names .exit)) (now (committed .exit)) (now (staged .exit)) image hash ≡ inBody (slot k) .put freeSlot (stateOf control table (now (names .entry)) (now (committed .entry)) (now (staged .entry)) image hash)) ⌝ }
+    ensures { λ v. ⌜ ((table image hash : List ℕ) → stateOf v table (now (names .exit)) (now (committed .exit)) (now (staged .exit)) image hash ≡ inBody (AtSlot k) .put freeSlot (stateOf control table (now (names .entry)) (now (committed .entry)) (now (staged .entry)) image hash)) ⌝ }
 {
     clear_name(names, k);
     clear_region(committed, k);

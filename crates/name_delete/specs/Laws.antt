@@ -7,7 +7,8 @@ use Rattle.laws.specs.Ranges.{part}
 use Rattle.protocol.specs.Numbers.{notFound, busy}
 use Rattle.protocol.specs.Frame.{Reply, refused, done}
 use Rattle.protocol.specs.declared.Blob.the-variants.{Store}
-use Rattle.state.specs.State.{State, inBody, slot}
+use Rattle.state.specs.declared.row.Place.the-variants.{AtSlot}
+use Rattle.state.specs.State.{State, inBody}
 use Rattle.state.specs.Words.{freeSlot}
 use Rattle.state.specs.declared.row.Wanted.the-variants.{OnBlob}
 use Rattle.rules.specs.Session.{rowFound}
@@ -18,7 +19,7 @@ use Rattle.rules.specs.Checks.{someOr, noneOr}
 module _ (start len : ℕ) (m : List ℕ) (s : State) where
   -- a session on slot k, or none
   abbrev quiet : (k : ℕ) → Option ℕ → Reply × State
-  quiet k o = noneOr o (refused busy, s) (done, inBody (slot k) .put freeSlot s)
+  quiet k o = noneOr o (refused busy, s) (done, inBody (AtSlot k) .put freeSlot s)
 
   named : (o : Option ℕ) → slotNamed (part start len m) s ≡ o → someOr o (refused notFound, s) (λ (k : ℕ). quiet k (rowFound (OnBlob k) s)) ≡ deleteBlob (Store start len) m s
   unfolding deleteBlob deleteStore
@@ -31,5 +32,5 @@ module _ (start len : ℕ) (m : List ℕ) (s : State) where
     pub delete-busy : (q : ℕ) → rowFound (OnBlob k) s ≡ some q → (refused busy, s) ≡ deleteBlob (Store start len) m s
     delete-busy q f = ap (quiet k) (sym f) ∙ named (some k) e
 
-    pub delete-ok : rowFound (OnBlob k) s ≡ none → (done, inBody (slot k) .put freeSlot s) ≡ deleteBlob (Store start len) m s
+    pub delete-ok : rowFound (OnBlob k) s ≡ none → (done, inBody (AtSlot k) .put freeSlot s) ≡ deleteBlob (Store start len) m s
     delete-ok f = ap (quiet k) (sym f) ∙ named (some k) e

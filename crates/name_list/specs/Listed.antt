@@ -13,9 +13,8 @@ use Rattle.protocol.specs.Names.{base, flashName, kindOf}
 use Rattle.protocol.specs.Frame.{Reply, refused, reply}
 use Rattle.state.specs.declared.Phase.{Phase}
 use Rattle.rules.specs.Listing.{listedFlash}
-use Rattle.response_types.specs.After.{replyOf, fieldsLaid}
+use Rattle.response_types.specs.After.{replyOf, fieldsLaid, fieldsLength}
 use Rattle.response_types.specs.declared.Said.{Said}
-use Rattle.response_types.specs.After.{fieldsLength}
 use Rattle.name_list.specs.declared.Listed.{Listed}
 use Rattle.name_list.specs.declared.Listed.the-variants.{Base, Slot, Flash, Outside}
 use Rattle.rules.specs.Opening.{flashListed}

@@ -3,21 +3,22 @@ use mathlib.Core.Path.{_≡_, sym, _∙_, ap}
 use mathlib.Core.Bool.{Bool, true, false, cond}
 use mathlib.Core.List.{List}
 use mathlib.Core.Option.{Option, none, some}
-use Prim.Native.Nat.{ℕ, _<_, _≤_}
+use Prim.Native.Nat.{ℕ}
 use lib.Dec.{eqb}
 use lib.ListN.{getD}
 use Rattle.laws.specs.Ranges.{part, block}
 use Rattle.laws.specs.Bits.{bit}
-use Rattle.protocol.specs.Numbers.{slotCount, rowWords, notFound, stateCommitted}
+use Rattle.protocol.specs.Numbers.{rowWords, notFound, stateCommitted}
 use Rattle.protocol.specs.Names.{kindOf, flashNumber}
 use Rattle.protocol.specs.Frame.{refused, reply, statFields, Reply}
 use Rattle.protocol.specs.declared.Blob.the-variants.{Store, Flash}
 use Rattle.protocol.specs.declared.FlashKind.{FlashKind}
-use Rattle.state.specs.State.{State, Place, slot, flash, placeOf, inBody}
+use Rattle.state.specs.declared.row.Place.{Place}
+use Rattle.state.specs.declared.row.Place.the-variants.{AtSlot, AtFlash}
+use Rattle.state.specs.State.{State, placeOf, inBody}
 use Rattle.state.specs.Words.{writingIn}
 use Rattle.state.specs.Entry.{wordsOf}
 use Rattle.state.specs.declared.row.Entry.{Entry}
-use Rattle.state.specs.Agree.{place-slot, place-flash}
 use Rattle.rules.specs.Command.{stateBits}
 use Rattle.rules.specs.Flash.{flashLength}
 use Rattle.rules.specs.Session.{rowFound, statRow, statPart}
@@ -37,12 +38,12 @@ module _ (r : ℕ) (s : State) (e : Entry) (words : block rowWords r .get (s .se
       ∙ ap (λ (x : Place). statPart x (record { words = wordsOf e; used = bit r (s .sessions .rows) }) (inBody x .get s)) q
       )
 
-  pub slot-stat : e .blob < slotCount
-      → statFields (stateBits (e .word)) (cond (eqb (writingIn (e .word)) 1) (getD (s .store .stagedLens) (e .blob) 0) (getD (s .store .committedLens) (e .blob) 0)) ≡ statRow r s
-  slot-stat h = row-stat (slot (e .blob)) (place-slot (e .blob) h)
+  pub slot-stat : (k : ℕ) → placeOf (e .blob) ≡ AtSlot k
+      → statFields (stateBits (e .word)) (cond (eqb (writingIn (e .word)) 1) (getD (s .store .stagedLens) k 0) (getD (s .store .committedLens) k 0)) ≡ statRow r s
+  slot-stat k p = row-stat (AtSlot k) p
 
-  pub flash-stat : slotCount ≤ e .blob → statFields (stateBits (e .word)) (flashLength (kindOf (e .blob)) (s .flashGroup)) ≡ statRow r s
-  flash-stat h = row-stat flash (place-flash (e .blob) h)
+  pub flash-stat : placeOf (e .blob) ≡ AtFlash → statFields (stateBits (e .word)) (flashLength (kindOf (e .blob)) (s .flashGroup)) ≡ statRow r s
+  flash-stat p = row-stat AtFlash p
 
 -- ---- a store name
 module _ (start len : ℕ) (m : List ℕ) (s : State) where

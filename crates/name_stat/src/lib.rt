@@ -24,8 +24,8 @@ use session_flash::flash_length;
 use session_row::state_bits;
 use session_store::seen_length;
 use state::Control;
-use state::SLOTS;
 use state::mask::Found;
+use state::row::Place;
 use state::row::Wanted;
 use state::row::kind_of;
 use state::row::read_row;
@@ -37,15 +37,16 @@ fn stat_row(control: Control, table: &[u32], r: usize) -> Said
 {
     let e = read_row(table, r);
     let state = state_bits(e);
-    if e.blob < SLOTS as u32 {
-        return Said::Stat {
+    let place = e.place();
+    match place {
+        Place::AtSlot(k) => Said::Stat {
             state,
-            size: seen_length(control, e.blob as usize, e.writes()),
-        };
-    }
-    Said::Stat {
-        state,
-        size: flash_length(kind_of(e.blob), control),
+            size: seen_length(control, k, e.writes()),
+        },
+        Place::AtFlash => Said::Stat {
+            state,
+            size: flash_length(kind_of(e.blob), control),
+        },
     }
 }
 

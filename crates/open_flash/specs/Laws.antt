@@ -11,8 +11,9 @@ use Rattle.protocol.specs.Numbers.{slotCount, writeOnly, notFound, noRoom, busy
 use Rattle.protocol.specs.Names.{flashNumber}
 use Rattle.protocol.specs.Frame.{refused}
 use Rattle.protocol.specs.declared.FlashKind.{FlashKind}
-use Rattle.state.specs.State.{State, inBody, flash}
+use Rattle.state.specs.State.{State, inBody}
 use Rattle.rules.specs.Open.{openFlash}
+use Rattle.state.specs.declared.row.Place.the-variants.{AtFlash}
 use Rattle.state.specs.declared.row.Wanted.the-variants.{OnFlash}
 use Rattle.rules.specs.Session.{rowFound}
 use Rattle.lookup.specs.Search.{free-row}
@@ -52,9 +53,9 @@ module _ (k : FlashKind) (flags t : ℕ) (s : State) where
 
         -- first the flash, then its row
         pub flash-ok : (r b : ℕ) → b ≡ flashNumber k → first (clear (s .sessions .rows)) slotCount ≡ some r
-            → rowOpened r b flags 0 t (inBody flash .put (openedFlash k (s .flashGroup)) s) ≡ openFlash k flags t s
+            → rowOpened r b flags 0 t (inBody AtFlash .put (openedFlash k (s .flashGroup)) s) ≡ openFlash k flags t s
         flash-ok r b q g =
-            ap (λ (x : ℕ). rowOpened r x flags 0 t (inBody flash .put (openedFlash k (s .flashGroup)) s)) q
-            ∙ ap (λ (x : ℕ). rowOpened r (flashNumber k) x 0 t (inBody flash .put (openedFlash k (s .flashGroup)) s)) p
-            ∙ opened-is flash r (flashNumber k) writeOnly 0 t (openedFlash k (s .flashGroup)) s
+            ap (λ (x : ℕ). rowOpened r x flags 0 t (inBody AtFlash .put (openedFlash k (s .flashGroup)) s)) q
+            ∙ ap (λ (x : ℕ). rowOpened r (flashNumber k) x 0 t (inBody AtFlash .put (openedFlash k (s .flashGroup)) s)) p
+            ∙ opened-is AtFlash r (flashNumber k) writeOnly 0 t (openedFlash k (s .flashGroup)) s
             ∙ free (some r) g

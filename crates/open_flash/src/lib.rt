@@ -3,7 +3,8 @@ ghost use mathlib.Core.Path.{_≡_};
 ghost use mathlib.Core.List.{List};
 ghost use Prim.Native.Nat.{ℕ, _<_};
 ghost use Rattle.protocol.specs.Numbers.{sixteenBits};
-ghost use Rattle.state.specs.State.{stateOf, inBody, flash};
+ghost use Rattle.state.specs.declared.row.Place.the-variants.{AtFlash};
+ghost use Rattle.state.specs.State.{stateOf, inBody};
 ghost use Rattle.state.specs.Lent.{TableLent, ImageLent, HashLent};
 ghost use Rattle.rules.specs.Open.{openFlash};
 ghost use Rattle.response_types.specs.After.{afterAct};
@@ -29,7 +30,7 @@ use state::values::with_phase;
 // Image and hash begin empty, and the phase is Uploading; the other flash names change nothing (rule 9.13).
 fn empty_flash(kind: FlashKind, control: Control, image: &mut [u8], hash: &mut [u8]) -> Control
     requires { ⌜ ImageLent (now image) × HashLent (now hash) ⌝ }
-    ensures { λ v. ⌜ ((table names committed staged : List ℕ) → stateOf v table names committed staged (now (image .exit)) (now (hash .exit)) ≡ inBody flash .put (openedFlash kind (stateOf control table names committed staged (now (image .entry)) (now (hash .entry)) .flashGroup)) (stateOf control table names committed staged (now (image .entry)) (now (hash .entry)))) ⌝ }
+    ensures { λ v. ⌜ ((table names committed staged : List ℕ) → stateOf v table names committed staged (now (image .exit)) (now (hash .exit)) ≡ inBody AtFlash .put (openedFlash kind (stateOf control table names committed staged (now (image .entry)) (now (hash .entry)) .flashGroup)) (stateOf control table names committed staged (now (image .entry)) (now (hash .entry)))) ⌝ }
 {
     let mut next = with_phase(control, Phase::Uploading);
     match kind {

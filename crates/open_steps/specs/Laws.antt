@@ -9,7 +9,9 @@ use Rattle.laws.specs.Bits.{put-bit, putBit}
 use Rattle.laws.specs.Bytes.{bytesOf, padded}
 use Rattle.protocol.specs.Numbers.{rowCount, nameSize, slotSize}
 use Rattle.protocol.specs.Frame.{reply}
-use Rattle.state.specs.State.{State, Place, slot, flash, Body, Slots, inRow, inBody, inStore, slotOf}
+use Rattle.state.specs.declared.row.Place.{Place}
+use Rattle.state.specs.declared.row.Place.the-variants.{AtSlot, AtFlash}
+use Rattle.state.specs.State.{State, Body, Slots, inRow, inBody, inStore, slotOf}
 use Rattle.state.specs.Parts.{slotOf-steady}
 use Rattle.state.specs.Soundness.{slotAt}
 use Rattle.rules.specs.Store.{withStaged}
@@ -22,8 +24,8 @@ use Rattle.rules.specs.Opening.{withNext, newRow, opened, heldSlot}
 
 -- the identifier hangs on no slot, and not on the flash
 fresh-put : (p : Place) (b : Body p) (s : State) → freshId (inBody p .put b s) ≡ freshId s
-fresh-put (slot k) b s = fresh-same rowCount (s .next) (s .sessions) (inBody (slot k) .put b s) s
-fresh-put flash b s = fresh-same rowCount (s .next) (s .sessions) (inBody flash .put b s) s
+fresh-put (AtSlot k) b s = fresh-same rowCount (s .next) (s .sessions) (inBody (AtSlot k) .put b s) s
+fresh-put AtFlash b s = fresh-same rowCount (s .next) (s .sessions) (inBody AtFlash .put b s) s
 
 pub opened-is : (p : Place) (r b flags clean t : ℕ) (v : Body p) (s : State) → rowOpened r b flags clean t (inBody p .put v s) ≡ opened p r b flags clean t v s
 unfolding rowOpened opened
@@ -46,12 +48,12 @@ named-put k n x names slots p q = λ i. record {
 -- ---- a held name's slot
 module _ (k flags : ℕ) (s : State) where
   held : (y : Bool) → writesWith flags ≡ y
-      → inBody (slot k) .put (cond y (withStaged (slotAt k s .committedBytes) (slotAt k s .committedLen) (slotAt k s)) (slotAt k s)) s ≡ inBody (slot k) .put (heldSlot flags (slotAt k s)) s
-  held y e = ap (λ (z : Bool). inBody (slot k) .put (cond z (withStaged (slotAt k s .committedBytes) (slotAt k s .committedLen) (slotAt k s)) (slotAt k s)) s) (sym e)
+      → inBody (AtSlot k) .put (cond y (withStaged (slotAt k s .committedBytes) (slotAt k s .committedLen) (slotAt k s)) (slotAt k s)) s ≡ inBody (AtSlot k) .put (heldSlot flags (slotAt k s)) s
+  held y e = ap (λ (z : Bool). inBody (AtSlot k) .put (cond z (withStaged (slotAt k s .committedBytes) (slotAt k s .committedLen) (slotAt k s)) (slotAt k s)) s) (sym e)
 
-  pub held-read : writesWith flags ≡ false → s ≡ inBody (slot k) .put (heldSlot flags (slotAt k s)) s
+  pub held-read : writesWith flags ≡ false → s ≡ inBody (AtSlot k) .put (heldSlot flags (slotAt k s)) s
   held-read e = sym (ap (λ (x : Slots). inStore .put x s) (slotOf-steady k (s .store))) ∙ held false e
 
   pub held-written : writesWith flags ≡ true → (g : List ℕ) → g ≡ block slotSize k .put (slotAt k s .committedBytes) (s .store .staged)
-      → inStore .put (stagedAs g (set (s .store .stagedLens) k (slotAt k s .committedLen)) (s .store)) s ≡ inBody (slot k) .put (heldSlot flags (slotAt k s)) s
+      → inStore .put (stagedAs g (set (s .store .stagedLens) k (slotAt k s .committedLen)) (s .store)) s ≡ inBody (AtSlot k) .put (heldSlot flags (slotAt k s)) s
   held-written h g e = ap (λ (x : Slots). inStore .put x s) (sym (staged-put k (s .store) g (slotAt k s .committedBytes) (slotAt k s .committedLen) e)) ∙ held true h

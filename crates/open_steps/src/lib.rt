@@ -5,7 +5,8 @@ ghost use Prim.Native.Nat.{ℕ, _+_, _<_, _≤_};
 ghost use lib.ListN.{length};
 ghost use Rattle.laws.specs.Ranges.{part};
 ghost use Rattle.protocol.specs.Numbers.{rowCount, slotCount, nameMost, sixteenBits};
-ghost use Rattle.state.specs.State.{stateOf, inBody, slot};
+ghost use Rattle.state.specs.declared.row.Place.the-variants.{AtSlot};
+ghost use Rattle.state.specs.State.{stateOf, inBody};
 ghost use Rattle.state.specs.Soundness.{slotAt};
 ghost use Rattle.state.specs.Lent.{TableLent, NamesLent, RegionsLent};
 ghost use Rattle.response_types.specs.After.{afterAct};
@@ -66,7 +67,7 @@ pub fn new_slot(
     names: &mut [u8],
 ) -> Control
     requires { ⌜ (k < slotCount) × (((start + len ≤ length (now message)) × (len ≤ nameMost)) × NamesLent (now names)) ⌝ }
-    ensures { λ v. ⌜ ((table committed staged image hash : List ℕ) → stateOf v table (now (names .exit)) committed staged image hash ≡ inBody (slot k) .put (named (part start len (now (message .entry))) (slotAt k (stateOf control table (now (names .entry)) committed staged image hash))) (stateOf control table (now (names .entry)) committed staged image hash)) ⌝ }
+    ensures { λ v. ⌜ ((table committed staged image hash : List ℕ) → stateOf v table (now (names .exit)) committed staged image hash ≡ inBody (AtSlot k) .put (named (part start len (now (message .entry))) (slotAt k (stateOf control table (now (names .entry)) committed staged image hash))) (stateOf control table (now (names .entry)) committed staged image hash)) ⌝ }
 {
     put_name(names, k, message, start, len);
     let mut next = control;
@@ -83,7 +84,7 @@ pub fn stage_slot(
     staged: &mut [u8],
 ) -> Control
     requires { ⌜ (k < slotCount) × (RegionsLent (now committed) × RegionsLent (now staged)) ⌝ }
-    ensures { λ v. ⌜ ((table names image hash : List ℕ) → stateOf v table names (now (committed .entry)) (now (staged .exit)) image hash ≡ inBody (slot k) .put (heldSlot flags (slotAt k (stateOf control table names (now (committed .entry)) (now (staged .entry)) image hash))) (stateOf control table names (now (committed .entry)) (now (staged .entry)) image hash)) ⌝ }
+    ensures { λ v. ⌜ ((table names image hash : List ℕ) → stateOf v table names (now (committed .entry)) (now (staged .exit)) image hash ≡ inBody (AtSlot k) .put (heldSlot flags (slotAt k (stateOf control table names (now (committed .entry)) (now (staged .entry)) image hash))) (stateOf control table names (now (committed .entry)) (now (staged .entry)) image hash)) ⌝ }
 {
     if !writes_with(flags as u32) {
         return control;

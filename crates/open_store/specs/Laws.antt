@@ -9,7 +9,8 @@ use Rattle.laws.specs.Find.{first, found}
 use Rattle.laws.specs.Masks.{clear}
 use Rattle.protocol.specs.Numbers.{slotCount, notFound, noRoom, busy, invalid}
 use Rattle.protocol.specs.Frame.{refused}
-use Rattle.state.specs.State.{State, Slot, inBody, slot}
+use Rattle.state.specs.declared.row.Place.the-variants.{AtSlot}
+use Rattle.state.specs.State.{State, Slot, inBody}
 use Rattle.state.specs.Soundness.{slotAt}
 use Rattle.rules.specs.Open.{openStore}
 use Rattle.state.specs.declared.row.Wanted.the-variants.{OnBlob}
@@ -37,11 +38,11 @@ module _ (n : List ℕ) (flags t : ℕ) (s : State) where
     pub new-no-slot : first (clear (s .store .slots)) slotCount ≡ none → (refused noRoom, s) ≡ openNew (freeRowIn s) (freeSlotIn s) n flags t s
     new-no-slot f = new-place none f
 
-    pub new-ok : (k : ℕ) → first (clear (s .store .slots)) slotCount ≡ some k → FreeZero (s .store) → rowOpened r k flags 0 t (inBody (slot k) .put (named n (slotAt k s)) s) ≡ openNew (freeRowIn s) (freeSlotIn s) n flags t s
+    pub new-ok : (k : ℕ) → first (clear (s .store .slots)) slotCount ≡ some k → FreeZero (s .store) → rowOpened r k flags 0 t (inBody (AtSlot k) .put (named n (slotAt k s)) s) ≡ openNew (freeRowIn s) (freeSlotIn s) n flags t s
     new-ok k f z =
         let g = found (clear (s .store .slots)) slotCount k f in
-        ap (λ (b : Slot). rowOpened r k flags 0 t (inBody (slot k) .put (named n b) s)) (z k (g .low) (eqb-true _ _ (g .passes)))
-        ∙ opened-is (slot k) r k flags 0 t (newSlot n) s ∙ new-place (some k) f
+        ap (λ (b : Slot). rowOpened r k flags 0 t (inBody (AtSlot k) .put (named n b) s)) (z k (g .low) (eqb-true _ _ (g .passes)))
+        ∙ opened-is (AtSlot k) r k flags 0 t (newSlot n) s ∙ new-place (some k) f
 
 -- ---- a held name
 module _ (k flags t : ℕ) (s : State) where
@@ -59,8 +60,8 @@ module _ (k flags t : ℕ) (s : State) where
     held-no-row f = held-free none f
 
     pub held-ok : (r : ℕ) → first (clear (s .sessions .rows)) slotCount ≡ some r
-        → rowOpened r k flags 1 t (inBody (slot k) .put (heldSlot flags (slotAt k s)) s) ≡ openHeld (rowFound (OnBlob k) s) k flags t s
-    held-ok r f = opened-is (slot k) r k flags 1 t (heldSlot flags (slotAt k s)) s ∙ held-free (some r) f
+        → rowOpened r k flags 1 t (inBody (AtSlot k) .put (heldSlot flags (slotAt k s)) s) ≡ openHeld (rowFound (OnBlob k) s) k flags t s
+    held-ok r f = opened-is (AtSlot k) r k flags 1 t (heldSlot flags (slotAt k s)) s ∙ held-free (some r) f
 
 -- ---- flags and name
 module _ (n : List ℕ) (flags t : ℕ) (s : State) where

@@ -11,10 +11,10 @@ ghost use Rattle.state.specs.Lent.{TableLent, NamesLent, RegionsLent, ImageLent
 use response_types::Act;
 use state::Control;
 use state::ROWS;
-use state::SLOTS;
 use state::Status;
 use state::mask::has;
 use state::row::Entry;
+use state::row::Place;
 use state::row::read_row;
 
 // A sweep is due this many seconds after the last one.
@@ -59,14 +59,19 @@ fn sweep_row(
     if !is_stale(e, clock) {
         return control;
     }
-    if e.blob < SLOTS as u32 {
-        let act: Act = session_store::close(control, table, names, committed, staged, r, e);
-        let next = act.control;
-        return next;
+    let place = e.place();
+    match place {
+        Place::AtSlot(k) => {
+            let act: Act = session_store::close(control, table, names, committed, staged, r, e, k);
+            let next = act.control;
+            next
+        }
+        Place::AtFlash => {
+            let act: Act = session_flash::close(control, table, image, hash, r, e);
+            let next = act.control;
+            next
+        }
     }
-    let act: Act = session_flash::close(control, table, image, hash, r, e);
-    let next = act.control;
-    next
 }
 
 // Every row, one after the other, if a sweep is due; then the clock is noted.

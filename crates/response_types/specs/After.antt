@@ -5,6 +5,7 @@ use lib.Seq.{sets}
 use Rattle.laws.specs.Bytes.{bytesOf}
 use Rattle.laws.specs.Ranges.{part}
 use Rattle.protocol.specs.Decode.{fieldsAt}
+use Rattle.protocol.specs.declared.Code.{Code}
 use Rattle.protocol.specs.Frame.{Reply, refused, done, reply, statFields}
 use Rattle.state.specs.State.{State, stateOf}
 use Rattle.state.specs.declared.Control.{Control}
@@ -42,3 +43,10 @@ fieldsLength (Session id) = 0
 fieldsLength (Number n) = 0
 fieldsLength (Stat state size) = 0
 fieldsLength (Fields len) = len
+
+-- a refusal, and a success without fields
+abbrev pub refusedAct : Code → Control → Act
+refusedAct code v = record { said = Refused code; control = v }
+
+abbrev pub doneAct : Control → Act
+doneAct v = record { said = Done; control = v }

@@ -1,4 +1,6 @@
 // What the code of a command hands back.
+ghost use mathlib.Core.Path.{_≡_};
+ghost use Rattle.response_types.specs.After.{refusedAct, doneAct};
 use protocol::Code;
 use state::Control;
 
@@ -17,4 +19,26 @@ pub enum Said {
 pub struct Act {
     pub said: Said,
     pub control: Control,
+}
+
+impl Act {
+    // A refusal: the control block is as it was.
+    pub fn refused(code: Code, control: Control) -> Act
+        ensures { λ o. ⌜ o ≡ refusedAct code control ⌝ }
+    {
+        Act {
+            said: Said::Refused(code),
+            control,
+        }
+    }
+
+    // A success without fields, and the control block after it.
+    pub fn done(control: Control) -> Act
+        ensures { λ o. ⌜ o ≡ doneAct control ⌝ }
+    {
+        Act {
+            said: Said::Done,
+            control,
+        }
+    }
 }

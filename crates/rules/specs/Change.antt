@@ -6,7 +6,9 @@ use Prim.Native.Nat.{ℕ, _<_}
 use native.Mathlib.Omega.{arith}
 use native.Mathlib.Decide.{ℕ-discrete}
 use Rattle.protocol.specs.Numbers.{rowCount, slotCount, rowWords, sixteenBits}
-use Rattle.state.specs.State.{State, Row, Slot, Place, slot, flash, Body, placeOf, inRow, inBody, cell}
+use Rattle.state.specs.declared.row.Place.{Place}
+use Rattle.state.specs.declared.row.Place.the-variants.{AtSlot, AtFlash}
+use Rattle.state.specs.State.{State, Row, Slot, Body, placeOf, inRow, inBody, cell}
 use Rattle.state.specs.Parts.{Separate, InRange, Shape, FitsRow, FitsBody, cell-shape, cell-get-put, cell-row-other, cell-body-other}
 use Rattle.state.specs.Words.{idOf, blobOf, ident, blob, Live}
 use Rattle.state.specs.Soundness.{slotAt}
@@ -26,7 +28,7 @@ pub record Change (s s′ : State) (i : ℕ) (p : Place) : Type 0 where
   pub now-id : Live i s′ → (r : ℕ) → Live r s → r ≢ i → ident r s ≢ ident i s′
   pub now-free : i < rowCount → inRow i .get s′ .used ≡ 0 → inRow i .get s′ .words ≡ 0 ∷ 0 ∷ 0 ∷ 0 ∷ []
   pub now-loose : (Live i s′ → ⊥) → Unheld p (inBody p .get s′)
-  pub now-named : (k l : ℕ) → p ≡ slot k → k < slotCount → l < slotCount → k ≢ l → slotAt k s′ .held ≡ 1 → slotAt l s .held ≡ 1 → slotAt k s′ .name ≢ slotAt l s .name
+  pub now-named : (k l : ℕ) → p ≡ AtSlot k → k < slotCount → l < slotCount → k ≢ l → slotAt k s′ .held ≡ 1 → slotAt l s .held ≡ 1 → slotAt k s′ .name ≢ slotAt l s .name
 
 module _ (s s′ : State) (i : ℕ) (p : Place) (sound : Sound s) (c : Change s s′ i p) where
   live-was : (r : ℕ) → r ≢ i → Live r s′ → Live r s
@@ -105,22 +107,22 @@ module _ (s s′ : State) (i : ℕ) (p : Place) (sound : Sound s) (c : Change s 
           (c .now-loose (λ (v : Live i s′). separate-irrefl w (subst (λ (x : Place). Separate x w) (c .now-at v ∙ e) (f i v))))
       go (inr m) = subst (Unheld w) (sym (c .bodies-kept w m)) (sound .loose w range (λ (r : ℕ) (l : Live r s). past m r l (ℕ-discrete r i)))
 
-  slot-kept : (k : ℕ) → Separate p (slot k) → slotAt k s′ ≡ slotAt k s
-  slot-kept k m = c .bodies-kept (slot k) m
+  slot-kept : (k : ℕ) → Separate p (AtSlot k) → slotAt k s′ ≡ slotAt k s
+  slot-kept k m = c .bodies-kept (AtSlot k) m
 
   new-names : (k l : ℕ) → k < slotCount → l < slotCount → k ≢ l → slotAt k s′ .held ≡ 1 → slotAt l s′ .held ≡ 1 → slotAt k s′ .name ≢ slotAt l s′ .name
-  new-names k l hk hl n a b = go (place-cases p (slot k)) (place-cases p (slot l))
+  new-names k l hk hl n a b = go (place-cases p (AtSlot k)) (place-cases p (AtSlot l))
     where
-      held-was : (j : ℕ) → Separate p (slot j) → slotAt j s′ .held ≡ 1 → slotAt j s .held ≡ 1
+      held-was : (j : ℕ) → Separate p (AtSlot j) → slotAt j s′ .held ≡ 1 → slotAt j s .held ≡ 1
       held-was j m h = sym (ap (λ (x : Slot). x .held) (slot-kept j m)) ∙ h
 
-      name-was : (j : ℕ) → Separate p (slot j) → slotAt j s′ .name ≡ slotAt j s .name
+      name-was : (j : ℕ) → Separate p (AtSlot j) → slotAt j s′ .name ≡ slotAt j s .name
       name-was j m = ap (λ (x : Slot). x .name) (slot-kept j m)
 
-      apart : (x y : ℕ) → x ≢ y → p ≡ slot x → Separate p (slot y)
-      apart x y m e = subst (λ (w : Place). Separate w (slot y)) (sym e) m
+      apart : (x y : ℕ) → x ≢ y → p ≡ AtSlot x → Separate p (AtSlot y)
+      apart x y m e = subst (λ (w : Place). Separate w (AtSlot y)) (sym e) m
 
-      go : (p ≡ slot k) ⊎ Separate p (slot k) → (p ≡ slot l) ⊎ Separate p (slot l) → slotAt k s′ .name ≢ slotAt l s′ .name
+      go : (p ≡ AtSlot k) ⊎ Separate p (AtSlot k) → (p ≡ AtSlot l) ⊎ Separate p (AtSlot l) → slotAt k s′ .name ≢ slotAt l s′ .name
       go (inl e) d = λ (z : slotAt k s′ .name ≡ slotAt l s′ .name).
           let m = apart k l n e in
           c .now-named k l e hk hl n a (held-was l m b) (z ∙ name-was l m)
@@ -134,8 +136,8 @@ module _ (s s′ : State) (i : ℕ) (p : Place) (sound : Sound s) (c : Change s 
 
 -- ---- a session's command: its own part changes
 abbrev pub NameKept : (p : Place) → Body p → Body p → Type 0
-NameKept (slot k) b d = d .held ≡ 1 → (b .held ≡ 1) × (d .name ≡ b .name)
-NameKept flash b d = Unit {0}
+NameKept (AtSlot k) b d = d .held ≡ 1 → (b .held ≡ 1) × (d .name ≡ b .name)
+NameKept AtFlash b d = Unit {0}
 
 -- what a command may do to its own part: the session stays with its identifier and blob, or it is freed
 pub record Proper (p : Place) (r q : Row) (b d : Body p) : Type 0 where
@@ -185,8 +187,8 @@ module _ (s : State) (sound : Sound s) (i : ℕ) (live : Live i s) (q : Row)
         let n : q .used ≢ 1 = λ (u : q .used ≡ 1). f (live .0, ap (λ (c : Row). c .used) row-new ∙ u) in
         let b : q .used < 2 = proper .row-fits .flag in
         subst (Unheld own) (sym body-new) (proper .freed (omega arith) .1);
-    now-named = λ (k l : ℕ) (e : own ≡ slot k) (hk : k < slotCount) (hl : l < slotCount) (n : k ≢ l) (a : slotAt k put .held ≡ 1) (b : slotAt l s .held ≡ 1) (z : slotAt k put .name ≡ slotAt l s .name).
-        let m : NameKept (slot k) (slotAt k s) (slotAt k put)
+    now-named = λ (k l : ℕ) (e : own ≡ AtSlot k) (hk : k < slotCount) (hl : l < slotCount) (n : k ≢ l) (a : slotAt k put .held ≡ 1) (b : slotAt l s .held ≡ 1) (z : slotAt k put .name ≡ slotAt l s .name).
+        let m : NameKept (AtSlot k) (slotAt k s) (slotAt k put)
         = subst (λ (w : Place). NameKept w (inBody w .get s) (inBody w .get put)) e (subst (λ (y : Body own). NameKept own (inBody own .get s) y) (sym body-new) (proper .named)) in
         sound .names-differ k l hk hl n (m a .0) b (sym (m a .1) ∙ z);
   }
@@ -215,8 +217,8 @@ module _ (s : State) (sound : Sound s) (i : ℕ) (live : Live i s) (q : Row)
 -- ---- a new session at a place that has none, on a free row
 -- no other slot in use has the name
 abbrev pub NewName : State → (p : Place) → Body p → Type 0
-NewName s (slot k) d = (l : ℕ) → l < slotCount → k ≢ l → slotAt l s .held ≡ 1 → d .name ≢ slotAt l s .name
-NewName s flash d = Unit {0}
+NewName s (AtSlot k) d = (l : ℕ) → l < slotCount → k ≢ l → slotAt l s .held ≡ 1 → d .name ≢ slotAt l s .name
+NewName s AtFlash d = Unit {0}
 
 module _ (s : State) (g : Sound s) (r : ℕ) (low : r < rowCount) (free : inRow r .get s .used ≡ 0) (p : Place) (row : Row) (body : Body p) (four : length (row .words) ≡ rowWords) (on : row .used ≡ 1)
     (at : placeOf (blobOf row) ≡ p) (alone : (q : ℕ) → Live q s → Separate (placeOf (blob q s)) p) (fits : FitsBody p body) (ses : Session p row body)
@@ -249,7 +251,7 @@ module _ (s : State) (g : Sound s) (r : ℕ) (low : r < rowCount) (free : inRow 
     now-id = λ (v : Live r with-new) (q : ℕ) (l : Live q s) (n : q ≢ r) (e : ident q s ≡ ident r with-new). unused q l (e ∙ ap idOf new-row);
     now-free = λ (h : r < rowCount) (u : inRow r .get with-new .used ≡ 0). absurd (let e = new-used in omega arith);
     now-loose = λ (f : Live r with-new → ⊥). absurd (f (low, new-used));
-    now-named = λ (k l : ℕ) (e : p ≡ slot k) (hk : k < slotCount) (hl : l < slotCount) (n : k ≢ l) (a : slotAt k with-new .held ≡ 1) (h : slotAt l s .held ≡ 1).
+    now-named = λ (k l : ℕ) (e : p ≡ AtSlot k) (hk : k < slotCount) (hl : l < slotCount) (n : k ≢ l) (a : slotAt k with-new .held ≡ 1) (h : slotAt l s .held ≡ 1).
         subst (λ (w : Place). NewName s w (inBody w .get with-new)) e (subst (NewName s p) (sym new-body) named) l hl n h;
   })
 
@@ -258,8 +260,8 @@ abbrev pub withValues : ℕ → ℕ → State → State
 withValues n t s = record { sessions = s .sessions; store = s .store; flashGroup = s .flashGroup; next = n; lastSweep = t }
 
 body-values : (w : Place) (n t : ℕ) (s : State) → inBody w .get (withValues n t s) ≡ inBody w .get s
-body-values (slot k) n t s = refl
-body-values flash n t s = refl
+body-values (AtSlot k) n t s = refl
+body-values AtFlash n t s = refl
 
 -- soundness sees of them only that the next identifier is small
 pub values-sound : (n t : ℕ) (s : State) → n < sixteenBits → Sound s → Sound (withValues n t s)

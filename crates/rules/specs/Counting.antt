@@ -17,7 +17,6 @@ use Rattle.state.specs.State.{State}
 use Rattle.state.specs.Soundness.{slotAt}
 use Rattle.rules.specs.Listing.{only, committedNames, flashNames, listed, count}
 use Rattle.rules.specs.Lookup.{freeRowIn, freeSlotIn}
-use Rattle.rules.specs.Opening.{flashListed}
 
 only-length : (b : ℕ) (n : List ℕ) → b < 2 → length (only (eqb b 1) n) ≡ b
 only-length zero n h = refl

@@ -20,7 +20,9 @@ use Rattle.protocol.specs.Names.{base, flashFolder, flashWord, nameForm, blobNa
 use Rattle.protocol.specs.declared.Blob.{Blob}
 use Rattle.protocol.specs.declared.Request.{Request}
 use Rattle.protocol.specs.declared.Request.the-variants.{Count, Open, Read, Write}
-use Rattle.state.specs.State.{State, Row, Slot, Place, slot, inRow, inBody}
+use Rattle.state.specs.declared.row.Place.{Place}
+use Rattle.state.specs.declared.row.Place.the-variants.{AtSlot}
+use Rattle.state.specs.State.{State, Row, Slot, inRow, inBody}
 use Rattle.state.specs.Parts.{FitsSlot, body-view-fits}
 use Rattle.state.specs.Words.{blobOf, stampOf, statusOf, writes, ident, blob, Live, freeRow, fresh}
 use Rattle.state.specs.Soundness.{slotAt, isSound}
@@ -154,7 +156,7 @@ module _ (n i : ℕ) (s : State) (h : Sees n i s) where
   seen-length = go (writes (inRow i .get s))
     where
       fit : FitsSlot (slotAt (blob i s) s)
-      fit = body-view-fits (slot (blob i s)) s (h .on-store) (good .shape) .1
+      fit = body-view-fits (AtSlot (blob i s)) s (h .on-store) (good .shape) .1
 
       go : (y : Bool) → length (seenBytes y (slotAt (blob i s) s)) ≡ slotSize
       go true = fit .staged-long

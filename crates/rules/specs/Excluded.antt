@@ -21,7 +21,9 @@ use Rattle.protocol.specs.Frame.{Reply, refused, done, reply, statFields, heade
 use Rattle.protocol.specs.declared.FlashKind.{FlashKind}
 use Rattle.protocol.specs.declared.FlashKind.the-variants.{Image, Hash, Verify, Update, Cleanup}
 use Rattle.state.specs.declared.Phase.the-variants.{Uploading}
-use Rattle.state.specs.State.{State, Row, Slot, FlashBody, Place, slot, flash, Body}
+use Rattle.state.specs.declared.row.Place.{Place}
+use Rattle.state.specs.declared.row.Place.the-variants.{AtSlot, AtFlash}
+use Rattle.state.specs.State.{State, Row, Slot, FlashBody, Body}
 use Rattle.state.specs.Words.{wordOf, stampOf, flagsIn, statusOf, wordWith, writes, writingIn, stamped, withClean, flags-with, blobOf}
 use Rattle.state.specs.Soundness.{slotAt, isSound}
 use Rattle.rules.specs.Store.{readCount, readStore, stored, writeStore, onStore, seenLength, withStaged, seenBytes, commitWriting, commitStore}
@@ -269,5 +271,5 @@ module _ (t : ℕ) (r : Row) (four : length (r .words) ≡ rowWords) where
 
   -- AN ACCEPTED COMMAND LIFTS ITS OWN ROW'S STAMP TO THE CLOCK, FROM WHAT THAT ROW HAD; in the state it sees and changes no other row: `by-own-part` and `other-rows` of Laws (rule 21.4)
   pub own-stamp : (p : Place) (c : Command) (b : Body p) → Lasting c → Lifted t r (onPart p t c r b)
-  own-stamp (slot k) c b l = store-lifts b c l
-  own-stamp flash c b l = flash-lifts b (kindOf (blobOf r)) c l
+  own-stamp (AtSlot k) c b l = store-lifts b c l
+  own-stamp AtFlash c b l = flash-lifts b (kindOf (blobOf r)) c l

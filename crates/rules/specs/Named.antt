@@ -9,9 +9,10 @@ use Rattle.protocol.specs.declared.FlashKind.{FlashKind}
 use Rattle.protocol.specs.declared.Blob.{Blob}
 use Rattle.protocol.specs.declared.Blob.the-variants.{Store, Flash, Base, Unknown}
 use Rattle.state.specs.declared.row.Wanted.the-variants.{OnBlob}
-use Rattle.state.specs.State.{State, slot, inBody}
+use Rattle.state.specs.State.{State, inBody}
 use Rattle.state.specs.Words.{freeSlot}
 use Rattle.state.specs.Soundness.{slotAt}
+use Rattle.state.specs.declared.row.Place.the-variants.{AtSlot}
 use Rattle.rules.specs.Flash.{flashLength}
 use Rattle.rules.specs.Session.{statRow, rowFound}
 use Rattle.rules.specs.Checks.{holdsOr, noneOr, someOr, whether}
@@ -24,7 +25,7 @@ unfoldable pub deleteStore : List ℕ → State → Reply × State
 deleteStore n s =
     someOr (slotNamed n s) (refused notFound, s) (λ (k : ℕ).
     noneOr (rowFound (OnBlob k) s) (refused busy, s)
-    (done, inBody (slot k) .put freeSlot s))
+    (done, inBody (AtSlot k) .put freeSlot s))
 
 -- DELETE by what the name names: a flash name or the base (D5), unknown (CB) (rule 14.1)
 unfoldable pub deleteBlob : Blob → List ℕ → State → Reply × State

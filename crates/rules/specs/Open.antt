@@ -9,9 +9,10 @@ use Rattle.protocol.specs.declared.FlashKind.{FlashKind}
 use Rattle.protocol.specs.declared.Blob.{Blob}
 use Rattle.protocol.specs.declared.Blob.the-variants.{Store, Flash, Base, Unknown}
 use Rattle.state.specs.declared.row.Wanted.the-variants.{OnBlob, OnFlash}
-use Rattle.state.specs.State.{State, slot, flash}
+use Rattle.state.specs.State.{State}
 use Rattle.state.specs.Words.{writesWith, storeFlags, flashFlags}
 use Rattle.state.specs.Soundness.{slotAt}
+use Rattle.state.specs.declared.row.Place.the-variants.{AtSlot, AtFlash}
 use Rattle.rules.specs.Session.{rowFound}
 use Rattle.rules.specs.Checks.{holdsOr, noneOr, someOr, whether}
 use Rattle.rules.specs.Lookup.{slotNamed, freeRowIn, freeSlotIn}
@@ -25,10 +26,10 @@ openStore n flags t s =
     (whether (slotNamed n s)
     (λ (k : ℕ).
     noneOr (rowFound (OnBlob k) s) (refused busy, s)
-    (someOr (freeRowIn s) (refused noRoom, s) (λ (r : ℕ). opened (slot k) r k flags 1 t (heldSlot flags (slotAt k s)) s)))
+    (someOr (freeRowIn s) (refused noRoom, s) (λ (r : ℕ). opened (AtSlot k) r k flags 1 t (heldSlot flags (slotAt k s)) s)))
     (holdsOr (writesWith flags) (refused notFound, s)
     (someOr (freeRowIn s) (refused noRoom, s) (λ (r : ℕ).
-    someOr (freeSlotIn s) (refused noRoom, s) (λ (k : ℕ). opened (slot k) r k flags 0 t (newSlot n) s)))))
+    someOr (freeSlotIn s) (refused noRoom, s) (λ (k : ℕ). opened (AtSlot k) r k flags 0 t (newSlot n) s)))))
 
 -- A FLASH NAME: flags (CC); it must be listed (CB); no flash session may be open (C0); a row (C4)
 -- (rules 9.1, 9.3, 9.4, 9.6 and 9.7)
@@ -37,7 +38,7 @@ openFlash k flags t s =
     holdsOr (flashFlags flags) (refused invalid, s)
     (holdsOr (flashListed k (s .flashGroup .phase)) (refused notFound, s)
     (noneOr (rowFound OnFlash s) (refused busy, s)
-    (someOr (freeRowIn s) (refused noRoom, s) (λ (r : ℕ). opened flash r (flashNumber k) writeOnly 0 t (openedFlash k (s .flashGroup)) s))))
+    (someOr (freeRowIn s) (refused noRoom, s) (λ (r : ℕ). opened AtFlash r (flashNumber k) writeOnly 0 t (openedFlash k (s .flashGroup)) s))))
 
 -- BY WHAT THE NAME NAMES: the base or unknown (CB); a store name stands in the message m (rule 9.1)
 unfoldable pub openBlob : Blob → (flags t : ℕ) → List ℕ → State → Reply × State

@@ -11,9 +11,10 @@ use Rattle.protocol.specs.Names.{flashNumber}
 use Rattle.protocol.specs.Frame.{Reply, refused}
 use Rattle.protocol.specs.declared.FlashKind.{FlashKind}
 use Rattle.state.specs.declared.row.Wanted.the-variants.{OnBlob, OnFlash}
-use Rattle.state.specs.State.{State, slot, flash}
+use Rattle.state.specs.State.{State}
 use Rattle.state.specs.Words.{writesWith, storeFlags, flashFlags}
 use Rattle.state.specs.Soundness.{slotAt}
+use Rattle.state.specs.declared.row.Place.the-variants.{AtSlot, AtFlash}
 use Rattle.rules.specs.Session.{rowFound}
 use Rattle.rules.specs.Lookup.{slotNamed, freeRowIn, freeSlotIn}
 use Rattle.rules.specs.Opening.{opened, newSlot, heldSlot, flashListed, openedFlash}
@@ -34,8 +35,8 @@ module _ (P : Reply × State → Type 0) (s : State) (refuses : (code : ℕ) →
 
   -- A STORE NAME: a held one gets a session, or a new one does
   pub open-store-has : (n : List ℕ) (flags t : ℕ)
-      → ((r k : ℕ) → storeFlags flags ≡ true → slotNamed n s ≡ some k → rowFound (OnBlob k) s ≡ none → freeRowIn s ≡ some r → P (opened (slot k) r k flags 1 t (heldSlot flags (slotAt k s)) s))
-      → ((r k : ℕ) → storeFlags flags ≡ true → slotNamed n s ≡ none → writesWith flags ≡ true → freeRowIn s ≡ some r → freeSlotIn s ≡ some k → P (opened (slot k) r k flags 0 t (newSlot n) s))
+      → ((r k : ℕ) → storeFlags flags ≡ true → slotNamed n s ≡ some k → rowFound (OnBlob k) s ≡ none → freeRowIn s ≡ some r → P (opened (AtSlot k) r k flags 1 t (heldSlot flags (slotAt k s)) s))
+      → ((r k : ℕ) → storeFlags flags ≡ true → slotNamed n s ≡ none → writesWith flags ≡ true → freeRowIn s ≡ some r → freeSlotIn s ≡ some k → P (opened (AtSlot k) r k flags 0 t (newSlot n) s))
       → P (openStore n flags t s)
   unfolding openStore
   open-store-has n flags t held new =
@@ -50,7 +51,7 @@ module _ (P : Reply × State → Type 0) (s : State) (refuses : (code : ℕ) →
   -- A FLASH NAME gets a session
   pub open-flash-has : (k : FlashKind) (flags t : ℕ)
       → ((r : ℕ) → flashFlags flags ≡ true → flashListed k (s .flashGroup .phase) ≡ true → rowFound OnFlash s ≡ none → freeRowIn s ≡ some r
-      → P (opened flash r (flashNumber k) writeOnly 0 t (openedFlash k (s .flashGroup)) s))
+      → P (opened AtFlash r (flashNumber k) writeOnly 0 t (openedFlash k (s .flashGroup)) s))
       → P (openFlash k flags t s)
   unfolding openFlash
   open-flash-has k flags t free =

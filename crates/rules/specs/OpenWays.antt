@@ -8,21 +8,22 @@ use Rattle.protocol.specs.Names.{flashNumber}
 use Rattle.protocol.specs.Frame.{Reply, refused}
 use Rattle.protocol.specs.declared.FlashKind.{FlashKind}
 use Rattle.state.specs.declared.row.Wanted.the-variants.{OnBlob, OnFlash}
-use Rattle.state.specs.State.{State, slot, flash}
+use Rattle.state.specs.State.{State}
 use Rattle.state.specs.Words.{writesWith}
 use Rattle.state.specs.Soundness.{slotAt}
+use Rattle.state.specs.declared.row.Place.the-variants.{AtSlot, AtFlash}
 use Rattle.rules.specs.Session.{rowFound}
 use Rattle.rules.specs.Checks.{holdsOr, noneOr, someOr, whether}
 use Rattle.rules.specs.Lookup.{freeRowIn, freeSlotIn}
 use Rattle.rules.specs.Opening.{opened, newSlot, heldSlot, openedFlash}
 
 -- a new name, with the free row and the free slot
-abbrev pub openNew : (row slot : Option ℕ) → List ℕ → (flags t : ℕ) → State → Reply × State
-openNew o j n flags t s = someOr o (refused noRoom, s) (λ (r : ℕ). someOr j (refused noRoom, s) (λ (k : ℕ). opened (slot k) r k flags 0 t (newSlot n) s))
+abbrev pub openNew : (row place : Option ℕ) → List ℕ → (flags t : ℕ) → State → Reply × State
+openNew o j n flags t s = someOr o (refused noRoom, s) (λ (r : ℕ). someOr j (refused noRoom, s) (λ (k : ℕ). opened (AtSlot k) r k flags 0 t (newSlot n) s))
 
 -- the held name of slot k, with the free row
 abbrev pub openFree : (row : Option ℕ) → (k flags t : ℕ) → State → Reply × State
-openFree o k flags t s = someOr o (refused noRoom, s) (λ (r : ℕ). opened (slot k) r k flags 1 t (heldSlot flags (slotAt k s)) s)
+openFree o k flags t s = someOr o (refused noRoom, s) (λ (r : ℕ). opened (AtSlot k) r k flags 1 t (heldSlot flags (slotAt k s)) s)
 
 -- the same, with the session on it
 abbrev pub openHeld : (session : Option ℕ) → (k flags t : ℕ) → State → Reply × State
@@ -36,7 +37,7 @@ openNamed o n flags t s =
 
 -- a flash name, with the free row
 abbrev pub openFlashFree : (row : Option ℕ) → FlashKind → (t : ℕ) → State → Reply × State
-openFlashFree o k t s = someOr o (refused noRoom, s) (λ (r : ℕ). opened flash r (flashNumber k) writeOnly 0 t (openedFlash k (s .flashGroup)) s)
+openFlashFree o k t s = someOr o (refused noRoom, s) (λ (r : ℕ). opened AtFlash r (flashNumber k) writeOnly 0 t (openedFlash k (s .flashGroup)) s)
 
 -- the same, with the flash session
 abbrev pub openFlashQuiet : (session : Option ℕ) → FlashKind → (t : ℕ) → State → Reply × State

@@ -10,7 +10,8 @@ use Rattle.protocol.specs.declared.FlashKind.{FlashKind}
 use Rattle.protocol.specs.declared.FlashKind.the-variants.{Image, Hash, Verify, Update, Cleanup}
 use Rattle.state.specs.declared.Phase.{Phase}
 use Rattle.state.specs.declared.Phase.the-variants.{Uploading}
-use Rattle.state.specs.State.{State, Row, Slot, FlashBody, Place, Body, cell}
+use Rattle.state.specs.State.{State, Row, Slot, FlashBody, Body, cell}
+use Rattle.state.specs.declared.row.Place.{Place}
 use Rattle.state.specs.Words.{wordWith, writesWith}
 use Rattle.state.specs.Soundness.{isIdle, isVerified}
 use Rattle.rules.specs.Store.{withStaged}

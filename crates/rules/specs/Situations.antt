@@ -11,7 +11,9 @@ use Rattle.laws.specs.Bits.{bit, bit-zero}
 use Rattle.laws.specs.Bytes.{same, firstZero, padded, padded-length, same-false}
 use Rattle.protocol.specs.Numbers.{slotCount, nameSize, slotSize, readWrite, rowWords, imageSize, hashSize, writeOnly, imageBlob}
 use Rattle.protocol.specs.Names.{base, alnum, storeName, storeField, kindOf}
-use Rattle.state.specs.State.{State, Row, Slot, slot, inRow, cell, Place, FlashBody, flash, Body, placeOf}
+use Rattle.state.specs.declared.row.Place.{Place}
+use Rattle.state.specs.declared.row.Place.the-variants.{AtSlot, AtFlash}
+use Rattle.state.specs.State.{State, Row, Slot, inRow, cell, FlashBody, Body, placeOf}
 use Rattle.state.specs.Parts.{FitsSlot, cell-get-put, cell-row-other, cell-body-other, Separate, FitsBody, row-put}
 use Rattle.state.specs.Words.{Live, fresh, idOf, blobOf, ident, store-writes}
 use Rattle.state.specs.Soundness.{slotAt, isSound}
@@ -48,7 +50,7 @@ writtenSlot name n = withStaged (replicate slotSize 0) n (newSlot name)
 
 -- ---- one store session, on a new name, with n bytes
 unfoldable pub writer : List ℕ → ℕ → State
-writer name n = cell 0 (slot 0) .put (writingRow 0, writtenSlot name n) fresh
+writer name n = cell 0 (AtSlot 0) .put (writingRow 0, writtenSlot name n) fresh
 
 -- the name may be a slot's
 abbrev pub StoreName : List ℕ → Type 0
@@ -108,7 +110,7 @@ module _ (name : List ℕ) (n : ℕ) where
   pub writer-good : StoreName name → n ≤ slotSize → Sound (writer name n)
   unfolding writer
   writer-good good h =
-      added-sound fresh fresh-good 0 (omega arith) (row-free 0) (slot 0) (writingRow 0) (writtenSlot name n) refl refl refl
+      added-sound fresh fresh-good 0 (omega arith) (row-free 0) (AtSlot 0) (writingRow 0) (writtenSlot name n) refl refl refl
       (λ (q : ℕ) (l : Live q fresh). absurd (no-session q l)) (omega arith, written-fits name n) (written-session 0 name n (omega arith) h good)
       (λ (q : ℕ) (l : Live q fresh). absurd (no-session q l)) (λ (l : ℕ) (low : l < slotCount) (m : 0 ≢ l) (u : slotAt l fresh .held ≡ 1). absurd (let z = slot-free l in omega arith))
 
@@ -117,9 +119,9 @@ module _ (name : List ℕ) (n : ℕ) where
   writer-sound good h = test-of-sound (writer name n) (writer-good good h)
 
   -- its session and its slot, and the others
-  writer-part : cell 0 (slot 0) .get (writer name n) ≡ (writingRow 0, writtenSlot name n)
+  writer-part : cell 0 (AtSlot 0) .get (writer name n) ≡ (writingRow 0, writtenSlot name n)
   unfolding writer
-  writer-part = cell-get-put 0 (slot 0) (writingRow 0, writtenSlot name n) fresh (omega arith) (fresh-good .shape) (record { four = refl; flag = omega arith }) (omega arith, written-fits name n)
+  writer-part = cell-get-put 0 (AtSlot 0) (writingRow 0, writtenSlot name n) fresh (omega arith) (fresh-good .shape) (record { four = refl; flag = omega arith }) (omega arith, written-fits name n)
 
   -- the row
   pub writer-row : inRow 0 .get (writer name n) ≡ writingRow 0
@@ -141,12 +143,12 @@ module _ (name : List ℕ) (n : ℕ) where
   -- no other slot is in use
   pub other-slot : (k : ℕ) → k ≢ 0 → slotAt k (writer name n) .held ≡ 0
   unfolding writer
-  other-slot k m = ap (λ (b : Slot). b .held) (cell-body-other 0 (slot 0) (slot k) (writingRow 0, writtenSlot name n) fresh (Ne·symm m)) ∙ slot-free k
+  other-slot k m = ap (λ (b : Slot). b .held) (cell-body-other 0 (AtSlot 0) (AtSlot k) (writingRow 0, writtenSlot name n) fresh (Ne·symm m)) ∙ slot-free k
 
   -- no other row is in use
   pub other-row : (r : ℕ) → r ≢ 0 → inRow r .get (writer name n) .used ≡ 0
   unfolding writer
-  other-row r m = ap (λ (x : Row). x .used) (cell-row-other 0 r (slot 0) (writingRow 0, writtenSlot name n) fresh (Ne·symm m)) ∙ row-free r
+  other-row r m = ap (λ (x : Row). x .used) (cell-row-other 0 r (AtSlot 0) (writingRow 0, writtenSlot name n) fresh (Ne·symm m)) ∙ row-free r
 
 -- ---- two sessions: the one above on `/scan/a`, and another in row 1
 module _ (n : ℕ) (h : n ≤ slotSize) where
@@ -163,7 +165,7 @@ module _ (n : ℕ) (h : n ≤ slotSize) where
   first-row : (q : ℕ) → Live q one → inRow q .get one ≡ writingRow 0
   first-row q l = ap (λ (x : ℕ). inRow x .get one) (only-one q l) ∙ writer-row (scanName letterA) n
 
-  second-good : (p : Place) (row : Row) (body : Body p) → length (row .words) ≡ rowWords → row .used ≡ 1 → placeOf (blobOf row) ≡ p → Separate (slot 0) p → FitsBody p body → Session p row body → idOf row ≢ 0 → NewName one p body
+  second-good : (p : Place) (row : Row) (body : Body p) → length (row .words) ≡ rowWords → row .used ≡ 1 → placeOf (blobOf row) ≡ p → Separate (AtSlot 0) p → FitsBody p body → Session p row body → idOf row ≢ 0 → NewName one p body
       → Sound (cell 1 p .put (row, body) one)
   second-good p row body four on at apart fits ses id named =
       added-sound one (writer-good (scanName letterA) n name-a h) 1 (omega arith) (other-row (scanName letterA) n 1 (omega arith)) p row body four on at
@@ -172,7 +174,7 @@ module _ (n : ℕ) (h : n ≤ slotSize) where
 
 -- two store sessions, on `/scan/a` and `/scan/b`, with n bytes each
 unfoldable pub twoWriters : ℕ → State
-twoWriters n = cell 1 (slot 1) .put (writingRow 1, writtenSlot (scanName letterB) n) (writer (scanName letterA) n)
+twoWriters n = cell 1 (AtSlot 1) .put (writingRow 1, writtenSlot (scanName letterB) n) (writer (scanName letterA) n)
 
 names-differ : same (padded nameSize (scanName letterB)) (padded nameSize (scanName letterA)) ≡ false
 unfolding same all padded nameSize base
@@ -185,7 +187,7 @@ names-apart = same-false (padded nameSize (scanName letterB)) (padded nameSize (
 pub two-good : (n : ℕ) → n ≤ slotSize → Sound (twoWriters n)
 unfolding twoWriters
 two-good n h =
-    second-good n h (slot 1) (writingRow 1) (writtenSlot (scanName letterB) n) refl refl refl (omega arith) (omega arith, written-fits (scanName letterB) n) (written-session 1 (scanName letterB) n (omega arith) h name-b) (omega arith)
+    second-good n h (AtSlot 1) (writingRow 1) (writtenSlot (scanName letterB) n) refl refl refl (omega arith) (omega arith, written-fits (scanName letterB) n) (written-session 1 (scanName letterB) n (omega arith) h name-b) (omega arith)
     (λ (l : ℕ) (low : l < slotCount) (m : 1 ≢ l) (u : slotAt l (writer (scanName letterA) n) .held ≡ 1). fresh-name l u (ℕ-discrete l 0))
   where
     fresh-name : (l : ℕ) → slotAt l (writer (scanName letterA) n) .held ≡ 1 → Dec (l ≡ 0) → padded nameSize (scanName letterB) ≢ slotAt l (writer (scanName letterA) n) .name
@@ -202,7 +204,7 @@ newImage = record { phase = Uploading; image = replicate imageSize 0; hash = rep
 
 -- the two sessions
 unfoldable pub writerAndImage : ℕ → State
-writerAndImage n = cell 1 flash .put (imageRow, newImage) (writer (scanName letterA) n)
+writerAndImage n = cell 1 AtFlash .put (imageRow, newImage) (writer (scanName letterA) n)
 
 image-kind : kindOf imageBlob ≡ Image
 unfolding kindOf
@@ -222,34 +224,34 @@ image-session = record {
 -- the facts of soundness hold
 pub image-good : (n : ℕ) → n ≤ slotSize → Sound (writerAndImage n)
 unfolding writerAndImage
-image-good n h = second-good n h flash imageRow newImage refl refl refl tt (length-replicate {A = ℕ} imageSize 0, length-replicate {A = ℕ} hashSize 0) image-session (omega arith) tt
+image-good n h = second-good n h AtFlash imageRow newImage refl refl refl tt (length-replicate {A = ℕ} imageSize 0, length-replicate {A = ℕ} hashSize 0) image-session (omega arith) tt
 
 -- the two rows and the first slot
 pub two-first : (n : ℕ) → inRow 0 .get (twoWriters n) ≡ writingRow 0
 unfolding twoWriters
-two-first n = cell-row-other 1 0 (slot 1) (writingRow 1, writtenSlot (scanName letterB) n) (writer (scanName letterA) n) (omega arith) ∙ writer-row (scanName letterA) n
+two-first n = cell-row-other 1 0 (AtSlot 1) (writingRow 1, writtenSlot (scanName letterB) n) (writer (scanName letterA) n) (omega arith) ∙ writer-row (scanName letterA) n
 
 -- the second row
 pub two-second : (n : ℕ) → n ≤ slotSize → inRow 1 .get (twoWriters n) ≡ writingRow 1
 unfolding twoWriters
-two-second n h = row-put 1 (slot 1) (writingRow 1, writtenSlot (scanName letterB) n) (writer (scanName letterA) n) (omega arith) (writer-good (scanName letterA) n name-a h .shape .table-size) (record { four = refl; flag = omega arith })
+two-second n h = row-put 1 (AtSlot 1) (writingRow 1, writtenSlot (scanName letterB) n) (writer (scanName letterA) n) (omega arith) (writer-good (scanName letterA) n name-a h .shape .table-size) (record { four = refl; flag = omega arith })
 
 -- the first slot
 pub two-slot : (n : ℕ) → slotAt 0 (twoWriters n) ≡ writtenSlot (scanName letterA) n
 unfolding twoWriters
-two-slot n = cell-body-other 1 (slot 1) (slot 0) (writingRow 1, writtenSlot (scanName letterB) n) (writer (scanName letterA) n) (omega arith) ∙ writer-slot (scanName letterA) n
+two-slot n = cell-body-other 1 (AtSlot 1) (AtSlot 0) (writingRow 1, writtenSlot (scanName letterB) n) (writer (scanName letterA) n) (omega arith) ∙ writer-slot (scanName letterA) n
 
 -- the first row
 pub image-first : (n : ℕ) → inRow 0 .get (writerAndImage n) ≡ writingRow 0
 unfolding writerAndImage
-image-first n = cell-row-other 1 0 flash (imageRow, newImage) (writer (scanName letterA) n) (omega arith) ∙ writer-row (scanName letterA) n
+image-first n = cell-row-other 1 0 AtFlash (imageRow, newImage) (writer (scanName letterA) n) (omega arith) ∙ writer-row (scanName letterA) n
 
 -- the second row
 pub image-second : (n : ℕ) → n ≤ slotSize → inRow 1 .get (writerAndImage n) ≡ imageRow
 unfolding writerAndImage
-image-second n h = row-put 1 flash (imageRow, newImage) (writer (scanName letterA) n) (omega arith) (writer-good (scanName letterA) n name-a h .shape .table-size) (record { four = refl; flag = omega arith })
+image-second n h = row-put 1 AtFlash (imageRow, newImage) (writer (scanName letterA) n) (omega arith) (writer-good (scanName letterA) n name-a h .shape .table-size) (record { four = refl; flag = omega arith })
 
 -- the first slot
 pub image-slot : (n : ℕ) → slotAt 0 (writerAndImage n) ≡ writtenSlot (scanName letterA) n
 unfolding writerAndImage
-image-slot n = cell-body-other 1 flash (slot 0) (imageRow, newImage) (writer (scanName letterA) n) tt ∙ writer-slot (scanName letterA) n
+image-slot n = cell-body-other 1 AtFlash (AtSlot 0) (imageRow, newImage) (writer (scanName letterA) n) tt ∙ writer-slot (scanName letterA) n

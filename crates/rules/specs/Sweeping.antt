@@ -15,7 +15,9 @@ use Rattle.protocol.specs.Numbers.{rowCount, running, rowWords, writeOnly, swee
 use Rattle.protocol.specs.Frame.{Reply}
 use Rattle.protocol.specs.Names.{kindOf, flashNumber}
 use Rattle.protocol.specs.declared.Blob.{Blob}
-use Rattle.state.specs.State.{State, Row, Place, slot, flash, Body, placeOf, inRow, inBody, cell}
+use Rattle.state.specs.declared.row.Place.{Place}
+use Rattle.state.specs.declared.row.Place.the-variants.{AtSlot, AtFlash}
+use Rattle.state.specs.State.{State, Row, Body, placeOf, inRow, inBody, cell}
 use Rattle.state.specs.Parts.{FitsRow, cell-row-other, row-put}
 use Rattle.state.specs.Words.{blobOf, stampOf, statusOf, blob, inUse, freeRow}
 use Rattle.state.specs.Soundness.{slotAt}
@@ -37,8 +39,8 @@ use mathlib.Core.Option.{some}
 -- ---- Close, of a session without a running job, frees its row
 pub close-frees : (p : Place) (t : ℕ) (r : Row) (b : Body p) → statusOf r ≢ running → onPart p t close r b .1 .0 ≡ freeRow
 unfolding onStore onFlash closeFlash
-close-frees (slot k) t r b n = refl
-close-frees flash t r b n = ap (λ (y : Bool). closeFlash y (kindOf (blobOf r)) r b .1 .0) (ne-eqb (statusOf r) running n)
+close-frees (AtSlot k) t r b n = refl
+close-frees AtFlash t r b n = ap (λ (y : Bool). closeFlash y (kindOf (blobOf r)) r b .1 .0) (ne-eqb (statusOf r) running n)
 
 -- another row's sweep leaves row i
 pub sweep-other : (t r i : ℕ) (s : State) → r ≢ i → inRow i .get (sweepRow t r s) ≡ inRow i .get s
@@ -129,8 +131,8 @@ module _ (t i : ℕ) (m : List ℕ) (s : State) (size : length (s .sessions .tab
   as-found = record { row-then = this refl; sweep-kept = refl }
 
   sweep-same : (p : Place) (r : ℕ) (c : Row × Body p) → cell r p .put c s .lastSweep ≡ s .lastSweep
-  sweep-same (slot k) r c = refl
-  sweep-same flash r c = refl
+  sweep-same (AtSlot k) r c = refl
+  sweep-same AtFlash r c = refl
 
   opened-fine : (p : Place) (r b flags clean : ℕ) (body : Body p) → freeRowIn s ≡ some r → Fine (opened p r b flags clean t body s)
   unfolding opened
@@ -148,11 +150,11 @@ module _ (t i : ℕ) (m : List ℕ) (s : State) (size : length (s .sessions .tab
 
   store-fine : (n : List ℕ) (flags : ℕ) → Fine (openStore n flags t s)
   store-fine n flags =
-      open-store-has Fine s (λ _ _. as-found) n flags t (λ (r k : ℕ) _ _ _ e. opened-fine (slot k) r k flags 1 (heldSlot flags (slotAt k s)) e)
-      (λ (r k : ℕ) _ _ _ e _. opened-fine (slot k) r k flags 0 (newSlot n) e)
+      open-store-has Fine s (λ _ _. as-found) n flags t (λ (r k : ℕ) _ _ _ e. opened-fine (AtSlot k) r k flags 1 (heldSlot flags (slotAt k s)) e)
+      (λ (r k : ℕ) _ _ _ e _. opened-fine (AtSlot k) r k flags 0 (newSlot n) e)
 
   flash-fine : (k : FlashKind) (flags : ℕ) → Fine (openFlash k flags t s)
-  flash-fine k flags = open-flash-has Fine s (λ _ _. as-found) k flags t (λ (r : ℕ) _ _ _ e. opened-fine flash r (flashNumber k) writeOnly 0 (openedFlash k (s .flashGroup)) e)
+  flash-fine k flags = open-flash-has Fine s (λ _ _. as-found) k flags t (λ (r : ℕ) _ _ _ e. opened-fine AtFlash r (flashNumber k) writeOnly 0 (openedFlash k (s .flashGroup)) e)
 
   -- every Open
   pub open-fine : (b : Blob) (flags : ℕ) → Fine (openBlob b flags t m s)

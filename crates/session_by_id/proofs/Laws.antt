@@ -3,7 +3,7 @@ use mathlib.Core.Path.{_≡_, refl, sym, _∙_, ap}
 use mathlib.Core.Bool.{true}
 use mathlib.Core.List.{List}
 use mathlib.Core.Option.{Option, none}
-use Prim.Native.Nat.{ℕ, _≤_}
+use Prim.Native.Nat.{ℕ}
 use lib.Dec.{leb}
 use borrow.Author.Tests.{leb-true}
 use lib.ListN.{getD}
@@ -15,7 +15,9 @@ use Rattle.state.specs.declared.mask.Found.{Found}
 use Rattle.state.specs.declared.mask.Found.the-variants.{At, Nothing}
 use Rattle.state.specs.declared.row.Entry.{Entry}
 use Rattle.state.specs.Entry.{wordsOf}
-use Rattle.state.specs.State.{State, Row, Place, slot, flash, Body, placeOf, inRow, inBody, cell, withRows}
+use Rattle.state.specs.declared.row.Place.{Place}
+use Rattle.state.specs.declared.row.Place.the-variants.{AtSlot, AtFlash}
+use Rattle.state.specs.State.{State, Row, Body, placeOf, inRow, inBody, cell, withRows}
 use Rattle.state.specs.Parts.{cell-steady}
 use Rattle.state.specs.Words.{blob, fresh}
 use Rattle.state.specs.Lent.{TableLent}
@@ -48,15 +50,15 @@ pub row-is : {x : Found} {w : Wanted} {rows : ℕ} {table : List ℕ} {r : ℕ} 
 row-is looked p size u = record { table-size = size; row-low = row-low looked p; row-words = u }
 
 -- the flash session's row names a flash blob
-pub found-flash : {x : Found} {rows : ℕ} {table : List ℕ} {r : ℕ} {e : Entry} → FoundRow x OnFlash rows table → x ≡ At r → block rowWords r .get table ≡ wordsOf e → slotCount ≤ e .blob
+pub found-flash : {x : Found} {rows : ℕ} {table : List ℕ} {r : ℕ} {e : Entry} → FoundRow x OnFlash rows table → x ≡ At r → block rowWords r .get table ≡ wordsOf e → placeOf (e .blob) ≡ AtFlash
 found-flash {rows = rows} {table = table} {r = r} {e = e} looked p u =
     let h = found-row OnFlash (withRows rows table fresh) r (row-in (withRows rows table fresh) looked p) .1 in
-    leb-true slotCount (e .blob) (sym (ap (λ (l : List ℕ). leb slotCount (getD l 1 0)) u) ∙ h)
+    place-flash (e .blob) (leb-true slotCount (e .blob) (sym (ap (λ (l : List ℕ). leb slotCount (getD l 1 0)) u) ∙ h))
 
 -- "Read: .. not a store session (D5)"
-pub flash-read : (s : State) (r : ℕ) (e : Entry) → block rowWords r .get (s .sessions .table) ≡ wordsOf e → slotCount ≤ e .blob → (t offset count : ℕ) → (refused notSupported, s) ≡ onRow r t (read offset count) s
+pub flash-read : (s : State) (r : ℕ) (e : Entry) → block rowWords r .get (s .sessions .table) ≡ wordsOf e → placeOf (e .blob) ≡ AtFlash → (t offset count : ℕ) → (refused notSupported, s) ≡ onRow r t (read offset count) s
 unfolding onFlash
-flash-read s r e words high t offset count = refuses s r e words flash (place-flash (e .blob) high) t (read offset count) notSupported refl
+flash-read s r e words place t offset count = refuses s r e words AtFlash place t (read offset count) notSupported refl
 
 -- a refused Read leaves the answer buffer
 pub kept-answer : (s : State) (o : Reply × State) (code : ℕ) (answer : List ℕ) → (refused code, s) ≡ o → ((refused code, s) ≡ o) × (answer ≡ fieldsLaid (o .0) answer)
@@ -65,8 +67,8 @@ kept-answer s o code answer p = (p, ap (λ (y : Reply × State). fieldsLaid (y .
 -- WriteMeta is refused to every session
 part-meta : (p : Place) (t : ℕ) (x : Row) (b : Body p) → onPart p t writeMeta x b ≡ refuse notSupported x b
 unfolding onStore onFlash
-part-meta (slot k) t x b = refl
-part-meta flash t x b = refl
+part-meta (AtSlot k) t x b = refl
+part-meta AtFlash t x b = refl
 
 pub meta-is : (s : State) (r t : ℕ) → (refused notSupported, s) ≡ onRow r t writeMeta s
 meta-is s r t = go (placeOf (blob r s))

@@ -15,8 +15,8 @@ use protocol::Code;
 use response_types::Act;
 use response_types::Said;
 use state::Control;
-use state::SLOTS;
 use state::mask::Found;
+use state::row::Place;
 use state::row::Wanted;
 use state::row::read_row;
 
@@ -39,8 +39,9 @@ pub fn read<'a>(
     match found {
         Found::At(r) => {
             let e = read_row(table, r);
-            if e.blob < SLOTS as u32 {
-                return session_store::read(
+            let place = e.place();
+            match place {
+                Place::AtSlot(k) => session_store::read(
                     control,
                     table,
                     committed,
@@ -48,12 +49,13 @@ pub fn read<'a>(
                     answer,
                     r,
                     e,
+                    k,
                     clock,
                     offset,
                     count,
-                );
+                ),
+                Place::AtFlash => Said::Refused(Code::NOT_SUPPORTED),
             }
-            Said::Refused(Code::NOT_SUPPORTED)
         }
         Found::Nothing => Said::Refused(Code::NOT_FOUND),
     }
@@ -78,10 +80,15 @@ pub fn write(
     match found {
         Found::At(r) => {
             let e = read_row(table, r);
-            if e.blob < SLOTS as u32 {
-                return session_store::write(control, table, staged, r, e, clock, offset, bytes);
+            let place = e.place();
+            match place {
+                Place::AtSlot(k) => {
+                    session_store::write(control, table, staged, r, e, k, clock, offset, bytes)
+                }
+                Place::AtFlash => {
+                    session_flash::write(control, table, image, hash, r, e, clock, offset, bytes)
+                }
             }
-            session_flash::write(control, table, image, hash, r, e, clock, offset, bytes)
         }
         Found::Nothing => Act {
             said: Said::Refused(Code::NOT_FOUND),
@@ -110,20 +117,26 @@ pub fn commit(
     match found {
         Found::At(r) => {
             let e = read_row(table, r);
-            if e.blob < SLOTS as u32 {
-                return session_store::commit(
-                    control,
-                    table,
-                    committed,
-                    staged,
-                    r,
-                    e,
-                    clock,
-                    len,
-                    rest,
-                );
+            let place = e.place();
+            match place {
+                Place::AtSlot(k) => {
+                    session_store::commit(
+                        control,
+                        table,
+                        committed,
+                        staged,
+                        r,
+                        e,
+                        k,
+                        clock,
+                        len,
+                        rest,
+                    )
+                }
+                Place::AtFlash => {
+                    session_flash::commit(control, table, image, hash, r, e, clock, len, rest)
+                }
             }
-            session_flash::commit(control, table, image, hash, r, e, clock, len, rest)
         }
         Found::Nothing => Act {
             said: Said::Refused(Code::NOT_FOUND),
@@ -150,10 +163,20 @@ pub fn close(
     match found {
         Found::At(r) => {
             let e = read_row(table, r);
-            if e.blob < SLOTS as u32 {
-                return session_store::close(control, table, names, committed, staged, r, e);
+            let place = e.place();
+            match place {
+                Place::AtSlot(k) => session_store::close(
+                    control,
+                    table,
+                    names,
+                    committed,
+                    staged,
+                    r,
+                    e,
+                    k,
+                ),
+                Place::AtFlash => session_flash::close(control, table, image, hash, r, e),
             }
-            session_flash::close(control, table, image, hash, r, e)
         }
         Found::Nothing => Act {
             said: Said::Refused(Code::NOT_FOUND),
@@ -171,10 +194,11 @@ pub fn stat(control: Control, table: &mut [u32], id: u32, clock: u32) -> Said
     match found {
         Found::At(r) => {
             let e = read_row(table, r);
-            if e.blob < SLOTS as u32 {
-                return session_store::stat(control, table, r, e, clock);
+            let place = e.place();
+            match place {
+                Place::AtSlot(k) => session_store::stat(control, table, r, e, k, clock),
+                Place::AtFlash => session_flash::stat(control, table, r, e, clock),
             }
-            session_flash::stat(control, table, r, e, clock)
         }
         Found::Nothing => Said::Refused(Code::NOT_FOUND),
     }

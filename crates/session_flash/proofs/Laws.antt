@@ -11,7 +11,7 @@ use lib.ListN.{length, drop, replicate, length-replicate, drop-of-length-le}
 use lib.Seq.{sets, sets-eq}
 use Rattle.laws.specs.Ranges.{block}
 use Rattle.laws.specs.Bits.{bit, putBit}
-use Rattle.protocol.specs.Numbers.{slotCount, rowWords, imageSize, hashSize, running, succeeded, failed, notSupported, invalid, busy}
+use Rattle.protocol.specs.Numbers.{rowWords, imageSize, hashSize, running, succeeded, failed, notSupported, invalid, busy}
 use Rattle.protocol.specs.Names.{kindOf}
 use Rattle.protocol.specs.Frame.{Reply, refused, done, reply, statFields}
 use Rattle.protocol.specs.declared.FlashKind.{FlashKind}
@@ -19,9 +19,9 @@ use Rattle.protocol.specs.declared.FlashKind.the-variants.{Image, Hash, Verify,
 use Rattle.state.specs.declared.Phase.the-variants.{Uploading, Verified}
 use Rattle.state.specs.declared.row.Entry.{Entry}
 use Rattle.state.specs.Entry.{wordsOf, lifted, statusSet}
-use Rattle.state.specs.State.{State, Row, FlashBody, flash}
+use Rattle.state.specs.declared.row.Place.the-variants.{AtFlash}
+use Rattle.state.specs.State.{placeOf, State, Row, FlashBody}
 use Rattle.state.specs.Words.{statusIn, statusOf, stamped, withStatus, freeRow, emptyFlash}
-use Rattle.state.specs.Agree.{place-flash}
 use Rattle.rules.specs.Command.{Command, write, commit, stat, close, endJob, Out, refuse, placed, commitFits, stateBits}
 use Rattle.rules.specs.Flash.{onFlash, writeFlash, withImage, withHash, withPhase, verifyJob, updateJob, commitKind, commitFlash, closedFlash, closeFlash, flashLength, statFlash, verdict, jobEnds}
 use Rattle.rules.specs.Session.{onRow}
@@ -149,7 +149,7 @@ module _ (k : FlashKind) (t : ℕ) (x : Row) (b : FlashBody) where
   outcome-none good p = rw (ne-eqb (statusOf x) running p)
 
 -- ---- in the state
-module _ (s : State) (r : ℕ) (e : Entry) (words : block rowWords r .get (s .sessions .table) ≡ wordsOf e) (high : slotCount ≤ e .blob) (t : ℕ) where
+module _ (s : State) (r : ℕ) (e : Entry) (words : block rowWords r .get (s .sessions .table) ≡ wordsOf e) (place : placeOf (e .blob) ≡ AtFlash) (t : ℕ) where
   -- the state with another table and flash
   abbrev pub after : List ℕ → FlashBody → State
   after table b = with s (record { table = table; rows = s .sessions .rows }) (s .store) b
@@ -157,10 +157,10 @@ module _ (s : State) (r : ℕ) (e : Entry) (words : block rowWords r .get (s .se
   part-does : (cmd : Command) (q : Reply) (f : Entry) (b b′ : FlashBody) (table : List ℕ)
       → onFlash (kindOf (e .blob)) t cmd (rowRead r e s) (s .flashGroup) ≡ (q, (rowRead r f s, b)) → table ≡ block rowWords r .put (wordsOf f) (s .sessions .table) → b ≡ b′ → (q, after table b′) ≡ onRow r t cmd s
   part-does cmd q f b b′ table h p u =
-      does s r e words flash (place-flash (e .blob) high) t cmd q (rowRead r f s) b _ h (put-flash s r (rowRead r f s) _ (row-kept r (s .sessions) (wordsOf f) table p) b b′ u)
+      does s r e words AtFlash place t cmd q (rowRead r f s) b _ h (put-flash s r (rowRead r f s) _ (row-kept r (s .sessions) (wordsOf f) table p) b b′ u)
 
   part-refuses : (cmd : Command) (code : ℕ) → onFlash (kindOf (e .blob)) t cmd (rowRead r e s) (s .flashGroup) ≡ refuse code (rowRead r e s) (s .flashGroup) → (refused code, s) ≡ onRow r t cmd s
-  part-refuses cmd code h = refuses s r e words flash (place-flash (e .blob) high) t cmd code h
+  part-refuses cmd code h = refuses s r e words AtFlash place t cmd code h
 
   -- Write
   module _ (offset : ℕ) (ws answer : List ℕ) where
@@ -218,7 +218,7 @@ module _ (s : State) (r : ℕ) (e : Entry) (words : block rowWords r .get (s .se
       → b ≡ cond y emptyFlash (withPhase (closedPhase (kindOf (e .blob)) (statusIn (e .word)) (s .flashGroup .phase)) (s .flashGroup))
       → (done, with s (record { table = table; rows = rows }) (s .store) b) ≡ onRow r t close s
   close-is table rows y b p q u1 u2 u3 =
-      does s r e words flash (place-flash (e .blob) high) t close done freeRow _ _ (close-free (kindOf (e .blob)) t (rowRead r e s) (s .flashGroup) y p q)
+      does s r e words AtFlash place t close done freeRow _ _ (close-free (kindOf (e .blob)) t (rowRead r e s) (s .flashGroup) y p q)
       (put-flash s r freeRow _ (row-freed r (s .sessions) table rows u1 u2) _ b (sym u3))
 
   -- SessionStat

@@ -2,10 +2,11 @@
 ghost use mathlib.Core.Path.{_≡_};
 ghost use mathlib.Core.Bool.{cond};
 ghost use mathlib.Core.List.{List};
-ghost use Prim.Native.Nat.{ℕ, _≤_, _<_};
+ghost use Prim.Native.Nat.{ℕ, _<_};
 ghost use lib.ListN.{length, replicate};
-ghost use Rattle.protocol.specs.Numbers.{slotCount, imageSize, hashSize, sixteenBits};
-ghost use Rattle.state.specs.State.{stateOf};
+ghost use Rattle.protocol.specs.Numbers.{imageSize, hashSize, sixteenBits};
+ghost use Rattle.state.specs.declared.row.Place.the-variants.{AtFlash};
+ghost use Rattle.state.specs.State.{placeOf, stateOf};
 ghost use Rattle.state.specs.Entry.{wordsOf, lifted};
 ghost use Rattle.rules.specs.Command.{write, commit, stat, close, endJob};
 ghost use Rattle.rules.specs.Flash.{flashLength, verdict};
@@ -70,7 +71,7 @@ pub fn write(
     offset: u32,
     bytes: &[u8],
 ) -> Act
-    requires { ⌜ RowIs (now table) r e × ((slotCount ≤ e .blob) × (ImageLent (now image) × HashLent (now hash))) ⌝ }
+    requires { ⌜ RowIs (now table) r e × ((placeOf (e .blob) ≡ AtFlash) × (ImageLent (now image) × HashLent (now hash))) ⌝ }
     ensures { λ o. ⌜ ((names committed staged answer : List ℕ) → afterAct o (now (table .exit)) names committed staged (now (image .exit)) (now (hash .exit)) answer ≡ onRow r clock (write offset (now (bytes .entry))) (stateOf control (now (table .entry)) names committed staged (now (image .entry)) (now (hash .entry)))) ⌝ }
 {
     let mut next = control;
@@ -154,7 +155,7 @@ pub fn commit(
     len: u8,
     rest: usize,
 ) -> Act
-    requires { ⌜ RowIs (now table) r e × ((slotCount ≤ e .blob) × (ImageLent (now image) × HashLent (now hash))) ⌝ }
+    requires { ⌜ RowIs (now table) r e × ((placeOf (e .blob) ≡ AtFlash) × (ImageLent (now image) × HashLent (now hash))) ⌝ }
     ensures { λ o. ⌜ ((names committed staged answer : List ℕ) → afterAct o (now (table .exit)) names committed staged (now (image .exit)) (now (hash .exit)) answer ≡ onRow r clock (commit len rest) (stateOf control (now (table .entry)) names committed staged (now (image .entry)) (now (hash .entry)))) ⌝ }
 {
     if !commit_fits(len, rest) {
@@ -235,7 +236,7 @@ pub fn close(
     r: usize,
     e: Entry,
 ) -> Act
-    requires { ⌜ RowIs (now table) r e × ((slotCount ≤ e .blob) × (ImageLent (now image) × HashLent (now hash))) ⌝ }
+    requires { ⌜ RowIs (now table) r e × ((placeOf (e .blob) ≡ AtFlash) × (ImageLent (now image) × HashLent (now hash))) ⌝ }
     ensures { λ o. ⌜ ((clock : ℕ) (names committed staged answer : List ℕ) → afterAct o (now (table .exit)) names committed staged (now (image .exit)) (now (hash .exit)) answer ≡ onRow r clock close (stateOf control (now (table .entry)) names committed staged (now (image .entry)) (now (hash .entry)))) ⌝ }
 {
     let status = e.status();
@@ -278,7 +279,7 @@ pub fn flash_length(kind: FlashKind, control: Control) -> u32
 
 // SessionStat.
 pub fn stat(control: Control, table: &mut [u32], r: usize, e: Entry, clock: u32) -> Said
-    requires { ⌜ RowIs (now table) r e × (slotCount ≤ e .blob) ⌝ }
+    requires { ⌜ RowIs (now table) r e × (placeOf (e .blob) ≡ AtFlash) ⌝ }
     ensures { λ o. ⌜ ((names committed staged image hash answer : List ℕ) → afterSaid o control (now (table .exit)) names committed staged image hash answer ≡ onRow r clock stat (stateOf control (now (table .entry)) names committed staged image hash)) ⌝ }
 {
     let size = flash_length(kind_of(e.blob), control);
@@ -300,7 +301,7 @@ fn verdict(good: bool) -> u32
 
 // A job's outcome; no stamp changes.
 pub fn end_job(control: Control, table: &mut [u32], r: usize, e: Entry, good: bool) -> Said
-    requires { ⌜ RowIs (now table) r e × (slotCount ≤ e .blob) ⌝ }
+    requires { ⌜ RowIs (now table) r e × (placeOf (e .blob) ≡ AtFlash) ⌝ }
     ensures { λ o. ⌜ ((clock : ℕ) (names committed staged image hash answer : List ℕ) → afterSaid o control (now (table .exit)) names committed staged image hash answer ≡ onRow r clock (endJob good) (stateOf control (now (table .entry)) names committed staged image hash)) ⌝ }
 {
     if e.status() == Status::RUNNING {

@@ -9,7 +9,9 @@ use Rattle.protocol.specs.Numbers.{rowWords, nameSize, slotSize}
 use Rattle.protocol.specs.Frame.{Reply, refused}
 use Rattle.state.specs.declared.row.Entry.{Entry}
 use Rattle.state.specs.Entry.{wordsOf}
-use Rattle.state.specs.State.{State, Rows, Slots, FlashBody, Row, Slot, Place, slot, flash, Body, placeOf, rowOf, slotOf, inBody, cell}
+use Rattle.state.specs.declared.row.Place.{Place}
+use Rattle.state.specs.declared.row.Place.the-variants.{AtSlot, AtFlash}
+use Rattle.state.specs.State.{State, Rows, Slots, FlashBody, Row, Slot, Body, placeOf, rowOf, slotOf, inBody, cell}
 use Rattle.state.specs.Parts.{cell-steady}
 use Rattle.state.specs.Words.{freeRow}
 use Rattle.rules.specs.Command.{Command, Out, refuse}
@@ -45,10 +47,10 @@ abbrev pub with : State → Rows → Slots → FlashBody → State
 with s x y z = record { sessions = x; store = y; flashGroup = z; next = s .next; lastSweep = s .lastSweep }
 
 module _ (s : State) (r : ℕ) (x : Row) (rows : Rows) (h : rowOf r .put x (s .sessions) ≡ rows) where
-  pub put-slot : (k : ℕ) (b : Slot) (slots : Slots) → slotOf k .put b (s .store) ≡ slots → cell r (slot k) .put (x, b) s ≡ with s rows slots (s .flashGroup)
+  pub put-slot : (k : ℕ) (b : Slot) (slots : Slots) → slotOf k .put b (s .store) ≡ slots → cell r (AtSlot k) .put (x, b) s ≡ with s rows slots (s .flashGroup)
   put-slot k b slots q = λ i. with s (h i) (q i) (s .flashGroup)
 
-  pub put-flash : (b b′ : FlashBody) → b ≡ b′ → cell r flash .put (x, b) s ≡ with s rows (s .store) b′
+  pub put-flash : (b b′ : FlashBody) → b ≡ b′ → cell r AtFlash .put (x, b) s ≡ with s rows (s .store) b′
   put-flash b b′ q = λ i. with s (h i) (s .store) (q i)
 
 -- a row that stays used

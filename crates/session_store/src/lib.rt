@@ -1,4 +1,4 @@
-// The commands on a store session, whose row r the code has read as e.
+// The commands on a store session, whose row r the code has read as e, and which is on slot k.
 ghost use mathlib.Core.Path.{_≡_};
 ghost use mathlib.Core.Bool.{cond};
 ghost use mathlib.Core.List.{List};
@@ -14,7 +14,7 @@ ghost use Rattle.rules.specs.Command.{read, write, commit, stat, close};
 ghost use Rattle.rules.specs.Session.{onRow};
 ghost use Rattle.response_types.specs.After.{afterAct, afterSaid, fieldsLaid, fieldsLength};
 ghost use Rattle.state.specs.Lent.{NamesLent, RegionsLent, AnswerLent};
-ghost use Rattle.session_row.specs.Lent.{LengthsFit, RowIs};
+ghost use Rattle.session_row.specs.Lent.{LengthsFit, RowIs, OnSlot};
 use memory_copy::copy_at;
 use memory_slots::clear_region;
 use memory_slots::copy_region;
@@ -53,11 +53,12 @@ pub fn write(
     staged: &mut [u8],
     r: usize,
     e: Entry,
+    k: usize,
     clock: u32,
     offset: u32,
     bytes: &[u8],
 ) -> Act
-    requires { ⌜ RowIs (now table) r e × ((e .blob < slotCount) × RegionsLent (now staged)) ⌝ }
+    requires { ⌜ RowIs (now table) r e × (OnSlot e k × RegionsLent (now staged)) ⌝ }
     ensures { λ o. ⌜ ((names committed image hash answer : List ℕ) → afterAct o (now (table .exit)) names committed (now (staged .exit)) image hash answer ≡ onRow r clock (write offset (now (bytes .entry))) (stateOf control (now (table .entry)) names committed (now (staged .entry)) image hash)) ⌝ }
 {
     if !e.writes() {
@@ -66,7 +67,6 @@ pub fn write(
             control,
         };
     }
-    let k = e.blob as usize;
     let len = control.staged_len[k];
     let written = write_region(staged, k * SLOT_SIZE, SLOT_SIZE, len, offset, bytes);
     write_row_if(table, r, after_write(e, bytes.len()).lifted(clock), written);
@@ -86,11 +86,12 @@ pub fn commit(
     staged: &[u8],
     r: usize,
     e: Entry,
+    k: usize,
     clock: u32,
     len: u8,
     rest: usize,
 ) -> Act
-    requires { ⌜ RowIs (now table) r e × ((e .blob < slotCount) × (RegionsLent (now committed) × RegionsLent (now staged))) ⌝ }
+    requires { ⌜ RowIs (now table) r e × (OnSlot e k × (RegionsLent (now committed) × RegionsLent (now staged))) ⌝ }
     ensures { λ o. ⌜ ((names image hash answer : List ℕ) → afterAct o (now (table .exit)) names (now (committed .exit)) (now (staged .entry)) image hash answer ≡ onRow r clock (commit len rest) (stateOf control (now (table .entry)) names (now (committed .entry)) (now (staged .entry)) image hash)) ⌝ }
 {
     if !commit_fits(len, rest) {
@@ -105,7 +106,6 @@ pub fn commit(
             control,
         };
     }
-    let k = e.blob as usize;
     copy_region(committed, staged, k);
     write_row(table, r, e.with_clean(1).lifted(clock));
     let mut next = control;
@@ -126,8 +126,9 @@ pub fn close(
     staged: &mut [u8],
     r: usize,
     e: Entry,
+    k: usize,
 ) -> Act
-    requires { ⌜ RowIs (now table) r e × ((e .blob < slotCount) × (NamesLent (now names) × (RegionsLent (now committed) × RegionsLent (now staged)))) ⌝ }
+    requires { ⌜ RowIs (now table) r e × (OnSlot e k × (NamesLent (now names) × (RegionsLent (now committed) × RegionsLent (now staged)))) ⌝ }
     ensures { λ o. ⌜ ((clock : ℕ) (image hash answer : List ℕ) → afterAct o (now (table .exit)) (now (names .exit)) (now (committed .exit)) (now (staged .exit)) image hash answer ≡ onRow r clock close (stateOf control (now (table .entry)) (now (names .entry)) (now (committed .entry)) (now (staged .entry)) image hash)) ⌝ }
 {
     clear_row(table, r);
@@ -139,7 +140,6 @@ pub fn close(
             control: next,
         };
     }
-    let k = e.blob as usize;
     if !has(control.marks, k) {
         let freed = free_slot(k, next, names, committed, staged);
         return Act {
@@ -199,15 +199,15 @@ pub fn read<'a>(
     answer: &mut [u8],
     r: usize,
     e: Entry,
+    k: usize,
     clock: u32,
     offset: u32,
     count: u32,
 ) -> Said
-    requires { ⌜ RowIs (now table) r e × ((e .blob < slotCount) × (RegionsLent (now committed) × (RegionsLent (now staged) × (AnswerLent (now answer) × LengthsFit control (e .blob))))) ⌝ }
+    requires { ⌜ RowIs (now table) r e × (OnSlot e k × (RegionsLent (now committed) × (RegionsLent (now staged) × (AnswerLent (now answer) × LengthsFit control k)))) ⌝ }
     ensures { λ o. ⌜ (fieldsLength o ≤ readMost) × ((names image hash : List ℕ) → (afterSaid o control (now (table .exit)) names (now (committed .entry)) (now (staged .entry)) image hash (now (answer .exit)) ≡ onRow r clock (read offset count) (stateOf control (now (table .entry)) names (now (committed .entry)) (now (staged .entry)) image hash)) × (now (answer .exit) ≡ fieldsLaid (onRow r clock (read offset count) (stateOf control (now (table .entry)) names (now (committed .entry)) (now (staged .entry)) image hash) .0) (now (answer .entry)))) ⌝ }
 {
     let writing = e.writes();
-    let k = e.blob as usize;
     let len = seen_length(control, k, writing);
     let n = read_count(count, offset, len) as usize;
     let from = min_u32(offset, len) as usize;
@@ -218,11 +218,11 @@ pub fn read<'a>(
 }
 
 // SessionStat.
-pub fn stat(control: Control, table: &mut [u32], r: usize, e: Entry, clock: u32) -> Said
-    requires { ⌜ RowIs (now table) r e × (e .blob < slotCount) ⌝ }
+pub fn stat(control: Control, table: &mut [u32], r: usize, e: Entry, k: usize, clock: u32) -> Said
+    requires { ⌜ RowIs (now table) r e × OnSlot e k ⌝ }
     ensures { λ o. ⌜ ((names committed staged image hash answer : List ℕ) → afterSaid o control (now (table .exit)) names committed staged image hash answer ≡ onRow r clock stat (stateOf control (now (table .entry)) names committed staged image hash)) ⌝ }
 {
-    let size = seen_length(control, e.blob as usize, e.writes());
+    let size = seen_length(control, k, e.writes());
     let state = state_bits(e);
     write_row(table, r, e.lifted(clock));
     Said::Stat { state, size }

@@ -20,6 +20,7 @@ use state::Status;
 use state::WORD_LIMIT;
 use state::mask::has;
 use state::row::Entry;
+use state::row::Place;
 use state::row::flash_flags;
 use state::row::kind_of;
 use state::row::read_row;
@@ -64,12 +65,14 @@ fn used_row(control: Control, e: Entry) -> bool
     ensures { λ x. ⌜ ((u : ℕ) (t n c g i h : List ℕ) → x ≡ usedRow (record { words = wordsOf e; used = u }) (stateOf control t n c g i h)) ⌝ }
 {
     let fits = (e.id < SIXTEEN_BITS) & (e.word < WORD_LIMIT);
-    if e.blob < SLOTS as u32 {
-        let k = e.blob as usize;
-        return fits & store_row(e, has(control.slots, k), has(control.marks, k));
+    let place = e.place();
+    match place {
+        Place::AtSlot(k) => fits & store_row(e, has(control.slots, k), has(control.marks, k)),
+        Place::AtFlash => {
+            let phase = control.phase;
+            fits & flash_row(e, phase)
+        }
     }
-    let phase = control.phase;
-    fits & flash_row(e, phase)
 }
 
 // A row whose words are all zero.

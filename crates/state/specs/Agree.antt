@@ -18,7 +18,9 @@ use Rattle.protocol.specs.declared.FlashKind.the-variants.{Image, Hash, Verify,
 use Rattle.protocol.specs.Names.{storeField, kindOf}
 use Rattle.state.specs.declared.Phase.{Phase}
 use Rattle.state.specs.declared.Phase.the-variants.{Idle, Uploading, Verified}
-use Rattle.state.specs.State.{State, Slot, FlashBody, Place, slot, flash, placeOf, inRow, inBody}
+use Rattle.state.specs.declared.row.Place.{Place}
+use Rattle.state.specs.declared.row.Place.the-variants.{AtSlot, AtFlash}
+use Rattle.state.specs.State.{State, Slot, FlashBody, placeOf, inRow, inBody}
 use Rattle.state.specs.Parts.{Separate, InRange, Shape, FitsSlot, row-view-fits, body-view-fits}
 use Rattle.state.specs.Words.{wordOf, flagsIn, statusIn, cleanIn, writingIn, writesWith, freeSlot, ident, blob, inUse, Live}
 use Rattle.state.specs.Soundness.{slotAt, isIdle, isUploading, isVerified, lentRight, valuesFit, flashFits, readerClean, cleanCommitted, storeRow, jobFits, flashRow, usedRow, rowOk, rowsClash, rowsApart, writesSlot, hasWriter}
@@ -110,37 +112,54 @@ flash-fits b f = and-both _ _ (and-both _ _ (le-leb _ _ (f .image-fits)) (le-leb
     go false e = refl
 
 -- ---- places
-pub place-slot : (b : ℕ) → b < slotCount → placeOf b ≡ slot b
+pub place-slot : (b : ℕ) → b < slotCount → placeOf b ≡ AtSlot b
 place-slot b h = rw (lt-ltb b slotCount h)
 
-pub place-flash : (b : ℕ) → slotCount ≤ b → placeOf b ≡ flash
+pub place-flash : (b : ℕ) → slotCount ≤ b → placeOf b ≡ AtFlash
 place-flash b h = rw (le-ltb b slotCount h)
 
-pub place-cases : (p w : Place) → (p ≡ w) ⊎ Separate p w
-place-cases (slot k) (slot l) = go (ℕ-discrete k l)
+-- the number of a slot, and whether a place is one
+abbrev numberOf : Place → ℕ
+numberOf (AtSlot k) = k
+numberOf AtFlash = slotCount
+
+abbrev isSlot : Place → Bool
+isSlot (AtSlot k) = true
+isSlot AtFlash = false
+
+-- a blob that is on slot k
+pub slot-of : (b k : ℕ) → placeOf b ≡ AtSlot k → k < slotCount
+slot-of b k e = go (ltb b slotCount) refl
   where
-    go : Dec (k ≡ l) → (slot k ≡ slot l) ⊎ (k ≢ l)
-    go (yes e) = inl (ap slot e)
+    go : (y : Bool) → ltb b slotCount ≡ y → k < slotCount
+    go true q = omega (arith, ltb-true b slotCount q, ap numberOf (sym (place-slot b (ltb-true b slotCount q)) ∙ e))
+    go false q = absurd (let z = ap isSlot (sym (place-flash b (ltb-false b slotCount q)) ∙ e) in true≢false (sym z))
+
+pub place-cases : (p w : Place) → (p ≡ w) ⊎ Separate p w
+place-cases (AtSlot k) (AtSlot l) = go (ℕ-discrete k l)
+  where
+    go : Dec (k ≡ l) → (AtSlot k ≡ AtSlot l) ⊎ (k ≢ l)
+    go (yes e) = inl (ap AtSlot e)
     go (no n) = inr n
-place-cases (slot k) flash = inr tt
-place-cases flash (slot l) = inr tt
-place-cases flash flash = inl refl
+place-cases (AtSlot k) AtFlash = inr tt
+place-cases AtFlash (AtSlot l) = inr tt
+place-cases AtFlash AtFlash = inl refl
 
 pub separate-irrefl : (p : Place) → Separate p p → ⊥
-separate-irrefl (slot k) h = h refl
-separate-irrefl flash h = h
+separate-irrefl (AtSlot k) h = h refl
+separate-irrefl AtFlash h = h
 
 pub separate-sym : (p w : Place) → Separate p w → Separate w p
-separate-sym (slot k) (slot l) h = λ (e : l ≡ k). h (sym e)
-separate-sym (slot k) flash h = tt
-separate-sym flash (slot l) h = tt
-separate-sym flash flash h = h
+separate-sym (AtSlot k) (AtSlot l) h = λ (e : l ≡ k). h (sym e)
+separate-sym (AtSlot k) AtFlash h = tt
+separate-sym AtFlash (AtSlot l) h = tt
+separate-sym AtFlash AtFlash h = h
 
 -- two places are apart where the blobs differ and are not both flash
 pub blobs-apart : (a b : ℕ) → a ≢ b → (slotCount ≤ a → slotCount ≤ b → ⊥) → Separate (placeOf a) (placeOf b)
 blobs-apart a b n f = go (ltb a slotCount) (ltb b slotCount) refl refl
   where
-    go : (x y : Bool) → ltb a slotCount ≡ x → ltb b slotCount ≡ y → Separate (cond x (slot a) flash) (cond y (slot b) flash)
+    go : (x y : Bool) → ltb a slotCount ≡ x → ltb b slotCount ≡ y → Separate (cond x (AtSlot a) AtFlash) (cond y (AtSlot b) AtFlash)
     go true true p q = n
     go true false p q = tt
     go false true p q = tt
@@ -149,7 +168,7 @@ blobs-apart a b n f = go (ltb a slotCount) (ltb b slotCount) refl refl
 pub apart-blobs : (a b : ℕ) → Separate (placeOf a) (placeOf b) → (a ≢ b) × (slotCount ≤ a → slotCount ≤ b → ⊥)
 apart-blobs a b h = (
   λ (e : a ≡ b). separate-irrefl (placeOf b) (subst (λ (x : ℕ). Separate (placeOf x) (placeOf b)) e h),
-  λ (p : slotCount ≤ a) (q : slotCount ≤ b). subst (λ (w : Place). Separate flash w) (place-flash b q) (subst (λ (w : Place). Separate w (placeOf b)) (place-flash a p) h),
+  λ (p : slotCount ≤ a) (q : slotCount ≤ b). subst (λ (w : Place). Separate AtFlash w) (place-flash b q) (subst (λ (w : Place). Separate w (placeOf b)) (place-flash a p) h),
 )
 
 -- a place has a session or none
@@ -414,7 +433,7 @@ module _ (s : State) (p : Parts s) where
 
   free-slot : (k : ℕ) → k < slotCount → slotAt k s .held ≡ 0 → slotAt k s ≡ freeSlot
   unfolding slotOk
-  free-slot k l h = unused-is (slotAt k s) (body-view-fits (slot k) s l shape-here .1) h
+  free-slot k l h = unused-is (slotAt k s) (body-view-fits (AtSlot k) s l shape-here .1) h
       (sym (ap (λ (y : Bool). cond y (usedSlot (slotAt k s) (hasWriter s k)) (unusedSlot (slotAt k s))) (ne-eqb (slotAt k s .held) 1 (omega arith))) ∙ all-at (slotOk s) slotCount (p .slots-ok) k l)
 
   -- a session on a slot
@@ -489,7 +508,7 @@ module _ (s : State) (p : Parts s) where
     where
       go : ident r s < sixteenBits → wordOf (inRow r .get s) < wordLimit → (y : Bool) → ltb (blob r s) slotCount ≡ y
           → cond y (storeRow (wordOf (inRow r .get s)) (slotAt (blob r s) s)) (flashRow (blob r s) (wordOf (inRow r .get s)) (s .flashGroup .phase)) ≡ true
-          → Session (cond y (slot (blob r s)) flash) (inRow r .get s) (inBody (cond y (slot (blob r s)) flash) .get s)
+          → Session (cond y (AtSlot (blob r s)) AtFlash) (inRow r .get s) (inBody (cond y (AtSlot (blob r s)) AtFlash) .get s)
       go i w true e h = on-store r live (ltb-true _ _ e) i w h
       go i w false e h = on-flash r live (ltb-false _ _ e) i w h
 
@@ -500,14 +519,14 @@ module _ (s : State) (p : Parts s) where
       = sym (ap (λ (y : Bool). cond y (usedRow (inRow r .get s) s) (zeros (inRow r .get s .words))) (ne-eqb (inRow r .get s .used) 1 (omega arith))) ∙ all-at (rowOk s) rowCount (p .rows-ok) r l in
       zeros-true (inRow r .get s .words) 4 (row-view-fits r s l shape-here .four) u
 
-  loose-slot : (k : ℕ) → k < slotCount → ((r : ℕ) → Live r s → Separate (placeOf (blob r s)) (slot k)) → StoreIdle (slotAt k s)
+  loose-slot : (k : ℕ) → k < slotCount → ((r : ℕ) → Live r s → Separate (placeOf (blob r s)) (AtSlot k)) → StoreIdle (slotAt k s)
   loose-slot k l f = go (ℕ-discrete (slotAt k s .held) 1)
     where
       no-writer : hasWriter s k ≡ true → ⊥
       no-writer e =
           let q = writer-row s k e in
           let v = writer-facts s k (q .0) (q .1) (q .2) in
-          separate-irrefl (slot k) (subst (λ (w : Place). Separate w (slot k)) (ap placeOf (v .writer-blob) ∙ place-slot k l) (f (q .0) (v .writer-live)))
+          separate-irrefl (AtSlot k) (subst (λ (w : Place). Separate w (AtSlot k)) (ap placeOf (v .writer-blob) ∙ place-slot k l) (f (q .0) (v .writer-live)))
 
       mk : Or (slotAt k s .mark ≡ 1) ((slotAt k s .committedLen ≡ 0) × (hasWriter s k ≡ true)) → slotAt k s .mark ≡ 1
       mk (this e) = e
@@ -539,8 +558,8 @@ module _ (s : State) (p : Parts s) where
           }
 
   loose-here : (w : Place) → InRange w → ((r : ℕ) → Live r s → Separate (placeOf (blob r s)) w) → Unheld w (inBody w .get s)
-  loose-here (slot k) l f = loose-slot k l f
-  loose-here flash l f = flash-ok (s .flashGroup) (p .flash-part)
+  loose-here (AtSlot k) l f = loose-slot k l f
+  loose-here AtFlash l f = flash-ok (s .flashGroup) (p .flash-part)
 
   names-here : (k l : ℕ) → k < slotCount → l < slotCount → k ≢ l → slotAt k s .held ≡ 1 → slotAt l s .held ≡ 1 → slotAt k s .name ≢ slotAt l s .name
   unfolding namesApart
@@ -575,11 +594,11 @@ free-of-test s h k l z = free-slot s (parts s h) k l z
 -- ---- back to the test
 module _ (s : State) (snd : Sound s) where
   pub back-flash : FlashIdle (s .flashGroup)
-  back-flash = go (holder s flash)
+  back-flash = go (holder s AtFlash)
     where
-      go : Holder s flash ⊎ ((r : ℕ) → Live r s → Separate (placeOf (blob r s)) flash) → FlashIdle (s .flashGroup)
+      go : Holder s AtFlash ⊎ ((r : ℕ) → Live r s → Separate (placeOf (blob r s)) AtFlash) → FlashIdle (s .flashGroup)
       go (inl h) = (subst (λ (w : Place). Session w (inRow (h .row) .get s) (inBody w .get s)) (h .there) (snd .session (h .row) (h .live))) .lengths
-      go (inr f) = snd .loose flash tt f
+      go (inr f) = snd .loose AtFlash tt f
 
   store-row : (r k : ℕ) → StoreSession k (inRow r .get s) (slotAt k s) → storeRow (wordOf (inRow r .get s)) (slotAt k s) ≡ true
   unfolding storeRow
@@ -598,7 +617,7 @@ module _ (s : State) (snd : Sound s) where
   unfolding usedRow
   used-row r live = go (ltb (blob r s) slotCount) (snd .session r live)
     where
-      go : (y : Bool) → Session (cond y (slot (blob r s)) flash) (inRow r .get s) (inBody (cond y (slot (blob r s)) flash) .get s)
+      go : (y : Bool) → Session (cond y (AtSlot (blob r s)) AtFlash) (inRow r .get s) (inBody (cond y (AtSlot (blob r s)) AtFlash) .get s)
           → (ltb (ident r s) sixteenBits && ltb (wordOf (inRow r .get s)) wordLimit)
           && cond y (storeRow (wordOf (inRow r .get s)) (slotAt (blob r s) s)) (flashRow (blob r s) (wordOf (inRow r .get s)) (s .flashGroup .phase)) ≡ true
       go true f = and-both _ _ (and-both _ _ (lt-ltb (ident r s) sixteenBits (f .id-small)) (lt-ltb (wordOf (inRow r .get s)) wordLimit (f .rest-zero))) (store-row r (blob r s) f)
@@ -639,9 +658,9 @@ module _ (s : State) (snd : Sound s) where
       and-both _ _ (and-both _ _ n (and-both _ _ (le-leb (slotAt k s .committedLen) slotSize c) (le-leb (slotAt k s .stagedLen) slotSize g))) (and-both _ _ m w)
 
   slot-held : (k : ℕ) → k < slotCount → slotAt k s .held ≡ 1 → usedSlot (slotAt k s) (hasWriter s k) ≡ true
-  slot-held k l held = go (holder s (slot k))
+  slot-held k l held = go (holder s (AtSlot k))
     where
-      go : Holder s (slot k) ⊎ ((r : ℕ) → Live r s → Separate (placeOf (blob r s)) (slot k)) → usedSlot (slotAt k s) (hasWriter s k) ≡ true
+      go : Holder s (AtSlot k) ⊎ ((r : ℕ) → Live r s → Separate (placeOf (blob r s)) (AtSlot k)) → usedSlot (slotAt k s) (hasWriter s k) ≡ true
       go (inl h) = used-slot-of k (f .name-good) (f .committed-fits) (f .staged-fits) (mark (ℕ-discrete (slotAt k s .mark) 1)) (staged (ℕ-discrete (writingIn w) 0))
         where
           w : ℕ
@@ -664,19 +683,19 @@ module _ (s : State) (snd : Sound s) where
           staged (yes e) = or-left (eqb (slotAt k s .stagedLen) 0) (hasWriter s k) (eq-eqb (slotAt k s .stagedLen) 0 (f .unstaged e))
           staged (no n) = or-right (eqb (slotAt k s .stagedLen) 0) (hasWriter s k) (writer n)
       go (inr f) =
-          let u = snd .loose (slot k) l f in
+          let u = snd .loose (AtSlot k) l f in
           used-slot-of k (u .held-name held) (u .idle-committed) (let z = u .idle-staged in omega arith)
           (or-left (eqb (slotAt k s .mark) 1) (eqb (slotAt k s .committedLen) 0 && hasWriter s k) (eq-eqb (slotAt k s .mark) 1 (sym (u .held-marked) ∙ held)))
           (or-left (eqb (slotAt k s .stagedLen) 0) (hasWriter s k) (eq-eqb (slotAt k s .stagedLen) 0 (u .idle-staged)))
 
   slot-free : (k : ℕ) → k < slotCount → slotAt k s .held ≡ 0 → unusedSlot (slotAt k s) ≡ true
-  slot-free k l z = go (holder s (slot k))
+  slot-free k l z = go (holder s (AtSlot k))
     where
-      go : Holder s (slot k) ⊎ ((r : ℕ) → Live r s → Separate (placeOf (blob r s)) (slot k)) → unusedSlot (slotAt k s) ≡ true
+      go : Holder s (AtSlot k) ⊎ ((r : ℕ) → Live r s → Separate (placeOf (blob r s)) (AtSlot k)) → unusedSlot (slotAt k s) ≡ true
       go (inl h) = absurd (
           let f : StoreSession k (inRow (h .row) .get s) (slotAt k s) = subst (λ (p : Place). Session p (inRow (h .row) .get s) (inBody p .get s)) (h .there) (snd .session (h .row) (h .live)) in
           let e = f .is-held in omega arith)
-      go (inr f) = is-unused (slotAt k s) (snd .loose (slot k) l f .free-zero z)
+      go (inr f) = is-unused (slotAt k s) (snd .loose (AtSlot k) l f .free-zero z)
 
   slot-ok : (k : ℕ) → k < slotCount → slotOk s k ≡ true
   unfolding slotOk

@@ -10,7 +10,9 @@ use Rattle.protocol.specs.declared.FlashKind.the-variants.{Image, Hash, Verify,
 use Rattle.protocol.specs.Names.{storeField, kindOf}
 use Rattle.state.specs.declared.Phase.{Phase}
 use Rattle.state.specs.declared.Phase.the-variants.{Idle, Uploading, Verified}
-use Rattle.state.specs.State.{State, Row, Slot, FlashBody, Place, slot, flash, Body, placeOf, inRow, inBody}
+use Rattle.state.specs.declared.row.Place.{Place}
+use Rattle.state.specs.declared.row.Place.the-variants.{AtSlot, AtFlash}
+use Rattle.state.specs.State.{State, Row, Slot, FlashBody, Body, placeOf, inRow, inBody}
 use Rattle.state.specs.Parts.{Separate, InRange, Shape}
 use Rattle.state.specs.Words.{idOf, blobOf, wordOf, flagsIn, statusIn, cleanIn, writingIn, storeFlags, freeSlot, ident, blob, Live}
 use Rattle.state.specs.Soundness.{slotAt}
@@ -71,12 +73,12 @@ abbrev pub FlashSession : Row → FlashBody → Type 0
 FlashSession r b = FlashFacts (idOf r) (blobOf r) (wordOf r) b
 
 abbrev pub Session : (p : Place) → Row → Body p → Type 0
-Session (slot k) r b = StoreSession k r b
-Session flash r b = FlashSession r b
+Session (AtSlot k) r b = StoreSession k r b
+Session AtFlash r b = FlashSession r b
 
 abbrev pub Unheld : (p : Place) → Body p → Type 0
-Unheld (slot k) b = StoreIdle b
-Unheld flash b = FlashIdle b
+Unheld (AtSlot k) b = StoreIdle b
+Unheld AtFlash b = FlashIdle b
 
 pub record Sound (s : State) : Type 0 where
   pub shape : Shape s

@@ -9,7 +9,9 @@ use Rattle.laws.specs.Ranges.{part-replicate, block-fits}
 use Rattle.laws.specs.Bits.{bit, bit-zero}
 use Rattle.protocol.specs.Numbers.{rowCount, slotCount, rowWords, nameSize, slotSize, imageSize, hashSize}
 use Rattle.state.specs.declared.Phase.the-variants.{Idle}
-use Rattle.state.specs.State.{Place, slot, flash, placeOf, inBody}
+use Rattle.state.specs.declared.row.Place.{Place}
+use Rattle.state.specs.declared.row.Place.the-variants.{AtSlot, AtFlash}
+use Rattle.state.specs.State.{placeOf, inBody}
 use Rattle.state.specs.Parts.{Separate, InRange}
 use Rattle.state.specs.Words.{freeSlot, blob, Live, fresh}
 use Rattle.state.specs.Soundness.{slotAt, isSound}
@@ -42,8 +44,8 @@ free-idle = record {
 
 idle-fresh : (p : Place) → InRange p → Unheld p (inBody p .get fresh)
 unfolding fresh
-idle-fresh (slot k) h = subst StoreIdle (sym (free-slot k h)) free-idle
-idle-fresh flash h = record { image-fits = omega arith; hash-fits = omega arith; idle-image = λ (e : Idle ≡ Idle). refl; idle-hash = λ (e : Idle ≡ Idle). refl }
+idle-fresh (AtSlot k) h = subst StoreIdle (sym (free-slot k h)) free-idle
+idle-fresh AtFlash h = record { image-fits = omega arith; hash-fits = omega arith; idle-image = λ (e : Idle ≡ Idle). refl; idle-hash = λ (e : Idle ≡ Idle). refl }
 
 pub fresh-good : Sound fresh
 unfolding fresh

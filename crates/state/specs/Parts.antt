@@ -9,17 +9,19 @@ use Rattle.laws.specs.Lens.{Indep, Steady, Field, into-indep, into-steady, both
 use Rattle.laws.specs.Ranges.{block, block-indep, block-fits, block-steady, range-get-put, length-part, element, element-indep, element-steady}
 use Rattle.laws.specs.Bits.{flag-kept, bit-lt, put-lt, bits, bits-indep, put-bit}
 use Rattle.protocol.specs.Numbers.{rowCount, slotCount, rowWords, nameSize, slotSize, imageSize, hashSize, sixteenBits}
-use Rattle.state.specs.State.{Rows, Slots, FlashBody, State, Row, Slot, Place, slot, flash, Body, inSessions, inStore, rowOf, inRow, slotOf, inBody, cell}
+use Rattle.state.specs.declared.row.Place.{Place}
+use Rattle.state.specs.declared.row.Place.the-variants.{AtSlot, AtFlash}
+use Rattle.state.specs.State.{Rows, Slots, FlashBody, State, Row, Slot, Body, inSessions, inStore, rowOf, inRow, slotOf, inBody, cell}
 
 abbrev pub Separate : Place → Place → Type 0
-Separate (slot k) (slot l) = k ≢ l
-Separate (slot k) flash = Unit {0}
-Separate flash (slot l) = Unit {0}
-Separate flash flash = ⊥
+Separate (AtSlot k) (AtSlot l) = k ≢ l
+Separate (AtSlot k) AtFlash = Unit {0}
+Separate AtFlash (AtSlot l) = Unit {0}
+Separate AtFlash AtFlash = ⊥
 
 abbrev pub InRange : Place → Type 0
-InRange (slot k) = k < slotCount
-InRange flash = Unit {0}
+InRange (AtSlot k) = k < slotCount
+InRange AtFlash = Unit {0}
 
 sessions-field : Field inSessions
 sessions-field = record { get-put = λ (c : Rows) (s : State). refl; put-put = λ (c d : Rows) (s : State). refl; put-get = λ (s : State). refl }
@@ -88,14 +90,14 @@ slotOf-steady k x = λ i. record {
 }
 
 pub body-indep : (p q : Place) → Separate p q → Indep (inBody p) (inBody q)
-body-indep (slot k) (slot l) n = into-indep inStore (slotOf k) (slotOf l) store-field (slotOf-indep k l n)
-body-indep (slot k) flash n = record { sees = λ (c : Slot) (s : State). refl; seen = λ (d : FlashBody) (s : State). refl; swap = λ (c : Slot) (d : FlashBody) (s : State). refl }
-body-indep flash (slot l) n = record { sees = λ (c : FlashBody) (s : State). refl; seen = λ (d : Slot) (s : State). refl; swap = λ (c : FlashBody) (d : Slot) (s : State). refl }
-body-indep flash flash n = absurd n
+body-indep (AtSlot k) (AtSlot l) n = into-indep inStore (slotOf k) (slotOf l) store-field (slotOf-indep k l n)
+body-indep (AtSlot k) AtFlash n = record { sees = λ (c : Slot) (s : State). refl; seen = λ (d : FlashBody) (s : State). refl; swap = λ (c : Slot) (d : FlashBody) (s : State). refl }
+body-indep AtFlash (AtSlot l) n = record { sees = λ (c : FlashBody) (s : State). refl; seen = λ (d : Slot) (s : State). refl; swap = λ (c : FlashBody) (d : Slot) (s : State). refl }
+body-indep AtFlash AtFlash n = absurd n
 
 pub row-body : (r : ℕ) (p : Place) → Indep (inRow r) (inBody p)
-row-body r (slot k) = record { sees = λ (c : Row) (s : State). refl; seen = λ (d : Slot) (s : State). refl; swap = λ (c : Row) (d : Slot) (s : State). refl }
-row-body r flash = record { sees = λ (c : Row) (s : State). refl; seen = λ (d : FlashBody) (s : State). refl; swap = λ (c : Row) (d : FlashBody) (s : State). refl }
+row-body r (AtSlot k) = record { sees = λ (c : Row) (s : State). refl; seen = λ (d : Slot) (s : State). refl; swap = λ (c : Row) (d : Slot) (s : State). refl }
+row-body r AtFlash = record { sees = λ (c : Row) (s : State). refl; seen = λ (d : FlashBody) (s : State). refl; swap = λ (c : Row) (d : FlashBody) (s : State). refl }
 
 pub cell-indep : (r q : ℕ) (p w : Place) → r ≢ q → Separate p w → Indep (cell r p) (cell q w)
 cell-indep r q p w n m =
@@ -104,8 +106,8 @@ cell-indep r q p w n m =
     (indep-sym (both-indep (inRow q) (inBody w) (inBody p) (row-body q p) (indep-sym (body-indep p w m))))
 
 body-steady : (p : Place) → Steady (inBody p)
-body-steady (slot k) = into-steady inStore (slotOf k) (store-field .put-get) (slotOf-steady k)
-body-steady flash = λ (s : State). refl
+body-steady (AtSlot k) = into-steady inStore (slotOf k) (store-field .put-get) (slotOf-steady k)
+body-steady AtFlash = λ (s : State). refl
 
 pub cell-steady : (r : ℕ) (p : Place) → Steady (cell r p)
 cell-steady r p = both-steady (inRow r) (inBody p) (into-steady inSessions (rowOf r) (sessions-field .put-get) (rowOf-steady r)) (body-steady p)
@@ -138,8 +140,8 @@ pub record FitsSlot (c : Slot) : Type 0 where
   pub mark-flag : c .mark < 2
 
 abbrev pub FitsBody : (p : Place) → Body p → Type 0
-FitsBody (slot k) b = (k < 16) × FitsSlot b
-FitsBody flash b = (length (b .image) ≡ imageSize) × (length (b .hash) ≡ hashSize)
+FitsBody (AtSlot k) b = (k < 16) × FitsSlot b
+FitsBody AtFlash b = (length (b .image) ≡ imageSize) × (length (b .hash) ≡ hashSize)
 
 pub row-get-put : (r : ℕ) (c : Row) (s : State) → r < 16 → Shape s → FitsRow c → inRow r .get (inRow r .put c s) ≡ c
 row-get-put r c s h sh f = λ i. record {
@@ -148,7 +150,7 @@ row-get-put r c s h sh f = λ i. record {
 }
 
 pub body-get-put : (p : Place) (b : Body p) (s : State) → Shape s → FitsBody p b → inBody p .get (inBody p .put b s) ≡ b
-body-get-put (slot k) b s sh f = λ i. record {
+body-get-put (AtSlot k) b s sh f = λ i. record {
   name = range-get-put (k * nameSize) nameSize (b .name) (s .store .names) (f .1 .name-long) (rw (sh .names-size) (block-fits nameSize k 16 (f .0))) i;
   committedBytes = range-get-put (k * slotSize) slotSize (b .committedBytes) (s .store .committed) (f .1 .committed-long) (rw (sh .committed-size) (block-fits slotSize k 16 (f .0))) i;
   stagedBytes = range-get-put (k * slotSize) slotSize (b .stagedBytes) (s .store .staged) (f .1 .staged-long) (rw (sh .staged-size) (block-fits slotSize k 16 (f .0))) i;
@@ -157,13 +159,13 @@ body-get-put (slot k) b s sh f = λ i. record {
   committedLen = getD-set-same (s .store .committedLens) k (b .committedLen) 0 (rw (sh .committedLens-size) (f .0)) i;
   stagedLen = getD-set-same (s .store .stagedLens) k (b .stagedLen) 0 (rw (sh .stagedLens-size) (f .0)) i;
 }
-body-get-put flash b s sh f = refl
+body-get-put AtFlash b s sh f = refl
 
 pub row-view-fits : (r : ℕ) (s : State) → r < 16 → Shape s → FitsRow (inRow r .get s)
 row-view-fits r s h sh = record { four = length-part (r * 4) 4 (s .sessions .table) (rw (sh .table-size) (block-fits 4 r 16 h)); flag = bit-lt r (s .sessions .rows) }
 
 pub body-view-fits : (p : Place) (s : State) → InRange p → Shape s → FitsBody p (inBody p .get s)
-body-view-fits (slot k) s h sh = (
+body-view-fits (AtSlot k) s h sh = (
   h,
   record {
     name-long = length-part (k * nameSize) nameSize (s .store .names) (rw (sh .names-size) (block-fits nameSize k 16 h));
@@ -173,7 +175,7 @@ body-view-fits (slot k) s h sh = (
     mark-flag = bit-lt k (s .store .marks);
   },
 )
-body-view-fits flash s h sh = (sh .image-size, sh .hash-size)
+body-view-fits AtFlash s h sh = (sh .image-size, sh .hash-size)
 
 pub row-shape : (r : ℕ) (c : Row) (s : State) → r < 16 → Shape s → Shape (inRow r .put c s)
 row-shape r c s h sh = record {
@@ -192,7 +194,7 @@ row-shape r c s h sh = record {
 }
 
 pub body-shape : (p : Place) (b : Body p) (s : State) → FitsBody p b → Shape s → Shape (inBody p .put b s)
-body-shape (slot k) b s f sh = record {
+body-shape (AtSlot k) b s f sh = record {
   names-size = length-sets (s .store .names) (k * nameSize) (take nameSize (b .name)) ∙ sh .names-size;
   committed-size = length-sets (s .store .committed) (k * slotSize) (take slotSize (b .committedBytes)) ∙ sh .committed-size;
   staged-size = length-sets (s .store .staged) (k * slotSize) (take slotSize (b .stagedBytes)) ∙ sh .staged-size;
@@ -206,7 +208,7 @@ body-shape (slot k) b s f sh = record {
   rows-small = sh .rows-small;
   next-small = sh .next-small;
 }
-body-shape flash b s f sh = record {
+body-shape AtFlash b s f sh = record {
   image-size = f .0;
   hash-size = f .1;
   table-size = sh .table-size;
@@ -240,15 +242,15 @@ cell-body-other i p w c s m = row-body i w .sees (c .0) (inBody p .put (c .1) s)
 
 -- a row that is put is found where the table has its length; the table keeps it
 pub row-put : (r : ℕ) (p : Place) (c : Row × Body p) (s : State) → r < rowCount → length (s .sessions .table) ≡ rowCount * rowWords → FitsRow (c .0) → inRow r .get (cell r p .put c s) ≡ c .0
-row-put r (slot k) c s h len f = λ i. record {
+row-put r (AtSlot k) c s h len f = λ i. record {
   words = range-get-put (r * 4) 4 (c .0 .words) (s .sessions .table) (f .four) (rw len (block-fits 4 r 16 h)) i;
   used = flag-kept r (c .0 .used) (s .sessions .rows) (f .flag) i;
 }
-row-put r flash c s h len f = λ i. record {
+row-put r AtFlash c s h len f = λ i. record {
   words = range-get-put (r * 4) 4 (c .0 .words) (s .sessions .table) (f .four) (rw len (block-fits 4 r 16 h)) i;
   used = flag-kept r (c .0 .used) (s .sessions .rows) (f .flag) i;
 }
 
 pub table-kept : (r : ℕ) (p : Place) (c : Row × Body p) (s : State) → length (cell r p .put c s .sessions .table) ≡ length (s .sessions .table)
-table-kept r (slot k) c s = length-sets (s .sessions .table) (r * 4) (take 4 (c .0 .words))
-table-kept r flash c s = length-sets (s .sessions .table) (r * 4) (take 4 (c .0 .words))
+table-kept r (AtSlot k) c s = length-sets (s .sessions .table) (r * 4) (take 4 (c .0 .words))
+table-kept r AtFlash c s = length-sets (s .sessions .table) (r * 4) (take 4 (c .0 .words))

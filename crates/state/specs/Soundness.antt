@@ -11,12 +11,13 @@ use Rattle.protocol.specs.declared.FlashKind.the-variants.{Image, Hash, Verify,
 use Rattle.protocol.specs.Names.{storeField, kindOf}
 use Rattle.state.specs.declared.Phase.{Phase}
 use Rattle.state.specs.declared.Phase.the-variants.{Idle, Uploading, Verified}
-use Rattle.state.specs.State.{State, Row, Slot, FlashBody, slot, inRow, inBody}
+use Rattle.state.specs.State.{State, Row, Slot, FlashBody, inRow, inBody}
 use Rattle.state.specs.Words.{idOf, blobOf, wordOf, flagsIn, statusIn, cleanIn, writes, writesWith, storeFlags, flashFlags, ident, blob, inUse}
+use Rattle.state.specs.declared.row.Place.the-variants.{AtSlot}
 
 -- the slot k of the state
 abbrev pub slotAt : ℕ → State → Slot
-slotAt k s = inBody (slot k) .get s
+slotAt k s = inBody (AtSlot k) .get s
 
 -- the phases (rule 5.3)
 abbrev pub isIdle : Phase → Bool
@@ -98,7 +99,7 @@ rowsApart s i j = not (inUse i s && (inUse j s && rowsClash s i j))
 
 -- ---- slots
 -- row r writes slot k
-unfoldable pub writesSlot : State → (slot row : ℕ) → Bool
+unfoldable pub writesSlot : State → (AtSlot row : ℕ) → Bool
 writesSlot s k r = inUse r s && (eqb (blob r s) k && writes (inRow r .get s))
 
 -- some row writes slot k (rule 6.12)

@@ -10,6 +10,8 @@ use Rattle.laws.specs.Bits.{bit, putBit}
 use Rattle.protocol.specs.Numbers.{slotCount, rowWords, nameSize, slotSize}
 use Rattle.state.specs.declared.Phase.{Phase}
 use Rattle.state.specs.declared.Control.{Control}
+use Rattle.state.specs.declared.row.Place.{Place}
+use Rattle.state.specs.declared.row.Place.the-variants.{AtSlot, AtFlash}
 
 -- the session table and the mask of rows used
 pub record Rows : Type 0 where
@@ -71,18 +73,14 @@ pub record Slot : Type 0 where
   pub committedLen : ℕ
   pub stagedLen : ℕ
 
--- what a session is on: a slot of the store, or the flash
-pub data Place : Type 0 where
-  slot : ℕ → Place
-  flash : Place
-
+-- what a session has beside its row: a slot of the store, or the flash
 abbrev pub Body : Place → Type 0
-Body (slot k) = Slot
-Body flash = FlashBody
+Body (AtSlot k) = Slot
+Body AtFlash = FlashBody
 
 -- the place of a blob number: the first 16 are the slots, those above them the flash (rule 5.8)
 abbrev pub placeOf : ℕ → Place
-placeOf b = cond (ltb b slotCount) (slot b) flash
+placeOf b = cond (ltb b slotCount) (AtSlot b) AtFlash
 
 -- the groups
 abbrev pub inSessions : Lens State Rows
@@ -139,8 +137,8 @@ slotOf k = record {
 
 -- a session's body, in the state
 abbrev pub inBody : (p : Place) → Lens State (Body p)
-inBody (slot k) = into inStore (slotOf k)
-inBody flash = inFlash
+inBody (AtSlot k) = into inStore (slotOf k)
+inBody AtFlash = inFlash
 
 abbrev pub cell : (r : ℕ) (p : Place) → Lens State (Row × Body p)
 cell r p = both (inRow r) (inBody p)

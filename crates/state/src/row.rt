@@ -6,10 +6,12 @@ ghost use Rattle.laws.specs.Ranges.{block};
 ghost use Rattle.protocol.specs.Names.{kindOf};
 ghost use Rattle.protocol.specs.Numbers.{rowCount, rowWords, statusUnit};
 ghost use Rattle.state.specs.Words.{flagsIn, statusIn, cleanIn, writingIn, writesWith, storeFlags, flashFlags, wordWith, freeRow};
+ghost use Rattle.state.specs.State.{placeOf};
 ghost use Rattle.state.specs.Entry.{wordsOf, lifted, statusSet, cleanSet};
 ghost use Rattle.state.specs.Lent.{TableLent};
 use crate::CLEAN_UNIT;
 use crate::ROW_WORDS;
+use crate::SLOTS;
 use crate::STATUS_UNIT;
 use crate::Status;
 use crate::numbers::max_u32;
@@ -22,6 +24,12 @@ pub struct Entry {
     pub blob: u32,
     pub word: u32,
     pub stamp: u32,
+}
+
+// What a session is on: a slot of the store, or the flash.
+pub enum Place {
+    AtSlot(usize),
+    AtFlash,
 }
 
 // The row that is looked for: the session of an identifier, the session on a blob, or the flash session.
@@ -39,6 +47,16 @@ impl Entry {
         word: 0,
         stamp: 0,
     };
+
+    // What the session of the row is on.
+    pub fn place(self) -> Place
+        ensures { λ x. ⌜ x ≡ placeOf (self .blob) ⌝ }
+    {
+        if self.blob < SLOTS as u32 {
+            return Place::AtSlot(self.blob as usize);
+        }
+        Place::AtFlash
+    }
 
     pub fn flags(self) -> u32
         ensures { λ x. ⌜ x ≡ flagsIn (self .word) ⌝ }

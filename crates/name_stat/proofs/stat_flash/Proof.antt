@@ -79,7 +79,8 @@ returns-2 c =
     let a = entry₂ c .args in
     let s = stateOf (a .control) (a .table .now) n d g i h in
     ap (λ (x : ℕ). reply (statFields 0 x)) (c .flash-length .ensures (a .table .now) n d g i h)
-    ∙ flash-closed (a .kind) m s (sym (at-flash-listed c .flash-listed .ensures) ∙ not-false _ (at-if1 c .if1 .left)) (ap (λ (b : ℕ). rowFound (OnBlob b) s) (sym (at-number c .number .ensures)) ∙ (row-in s (at-find-row c .find-row .ensures) (c .before .enum-told .given .1)))
+    ∙ flash-closed (a .kind) m s (sym (at-flash-listed c .flash-listed .ensures) ∙ not-false _ (at-if1 c .if1 .left))
+    (ap (λ (b : ℕ). rowFound (OnBlob b) s) (sym (at-number c .number .ensures)) ∙ (row-in s (at-find-row c .find-row .ensures) (c .before .enum-told .given .1)))
 
 stat-row-requires : tie.Need-stat-row-requires
 stat-row-requires c κs = (row-low (at-find-row₂ c .find-row .ensures) (c .before .r .given .1), entry₃ c .pre)
@@ -90,7 +91,8 @@ returns-3 c =
     let a = entry₄ c .args in
     let s = stateOf (a .control) (a .table .now) n d g i h in
     c .stat-row .ensures n d g i h x
-    ∙ flash-open (a .kind) m s (sym (at-flash-listed₂ c .flash-listed .ensures) ∙ not-false _ (at-if1₂ c .if1 .left)) (c .before .before .r .given .0 .0) (ap (λ (b : ℕ). rowFound (OnBlob b) s) (sym (at-number₂ c .number .ensures)) ∙ (row-in s (at-find-row₃ c .find-row .ensures) (c .before .before .r .given .1)))
+    ∙ flash-open (a .kind) m s (sym (at-flash-listed₂ c .flash-listed .ensures) ∙ not-false _ (at-if1₂ c .if1 .left)) (c .before .before .r .given .0 .0)
+    (ap (λ (b : ℕ). rowFound (OnBlob b) s) (sym (at-number₂ c .number .ensures)) ∙ (row-in s (at-find-row₃ c .find-row .ensures) (c .before .before .r .given .1)))
 
 pub stat-flash-spec : {M : Type 1} → statement M
 stat-flash-spec =

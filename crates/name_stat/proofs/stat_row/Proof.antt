@@ -1,9 +1,10 @@
 -- `stat_row`: the row as read; a slot's view or the flash's length.
+use mathlib.Core.Path.{sym, _∙_, ap, ap₂}
 use mathlib.Core.List.{List}
-use mathlib.Core.Path.{_∙_, ap, ap₂}
 use Prim.Native.Nat.{ℕ}
 use Rattle.protocol.specs.Frame.{reply, statFields}
 use Rattle.state.specs.State.{State, stateOf}
+use Rattle.state.specs.Agree.{slot-of}
 use mathlib.Core.Bool.{Bool, cond}
 use lib.ListN.{getD}
 use Rattle.protocol.specs.declared.FlashKind.{FlashKind}
@@ -13,22 +14,42 @@ use borrow.Author.Needs.{needs}
 use Rattle.name_stat.proofs.stat_row.Statement.{statement}
 use Rattle.name_stat.proofs.stat_row.Tie as tie
 
--- the state at entry, with the buffers that are not lent
-abbrev whole : tie.Start → List ℕ → List ℕ → List ℕ → List ℕ → List ℕ → State
-whole c names committed staged image hash = let a = c .args in stateOf (a .control) (a .table .now) names committed staged image hash
-
 -- the places that the answers read
-abbrev entry : tie.After-state-bits → tie.Start
-entry c = c .before .before .before
+abbrev at-read-row : tie.After-writes → tie.After-read-row
+at-read-row c = c .before .before .before .before .before .before
+
+abbrev at-place : tie.After-writes → tie.After-place
+at-place c = c .before .before .before .before
+
+abbrev entry : tie.After-seen-length → tie.Start
+entry c = c .before .before .before .before .before .before .before .before .before
+
+abbrev at-read-row₂ : tie.After-seen-length → tie.After-read-row
+at-read-row₂ c = c .before .before .before .before .before .before .before
+
+abbrev at-place2 : tie.After-seen-length → tie.After-place2
+at-place2 c = c .before .before .before
 
 abbrev at-state-bits : tie.After-seen-length → tie.After-state-bits
-at-state-bits c = c .before .before .before .before .before
+at-state-bits c = c .before .before .before .before .before .before
+
+abbrev at-place₂ : tie.After-seen-length → tie.After-place
+at-place₂ c = c .before .before .before .before .before
+
+abbrev entry₂ : tie.After-flash-length → tie.Start
+entry₂ c = c .before .before .before .before .before .before .before .before
+
+abbrev at-read-row₃ : tie.After-flash-length → tie.After-read-row
+at-read-row₃ c = c .before .before .before .before .before .before
 
 abbrev at-state-bits₂ : tie.After-flash-length → tie.After-state-bits
-at-state-bits₂ c = c .before .before .before .before
+at-state-bits₂ c = c .before .before .before .before .before
 
-abbrev in-then1 : tie.After-seen-length → tie.Then1
-in-then1 c = c .before .before .before
+abbrev at-place₃ : tie.After-flash-length → tie.After-place
+at-place₃ c = c .before .before .before .before
+
+abbrev whole : tie.Start → List ℕ → List ℕ → List ℕ → List ℕ → List ℕ → State
+whole s n d g i h = stateOf (s .args .control) (s .args .table .now) n d g i h
 
 read-row-requires : tie.Need-read-row-requires
 read-row-requires c κs = search needs
@@ -36,27 +57,21 @@ read-row-requires c κs = search needs
 state-bits-requires : tie.Need-state-bits-requires
 state-bits-requires c κs = search needs
 
-cast-if1 : tie.Need-cast-if1
-cast-if1 c = search needs
+place-requires : tie.Need-place-requires
+place-requires c κs = search needs
 
-cast-seen-length : tie.Need-cast-seen-length
-cast-seen-length c = search needs
+enum-known-place : tie.Need-enum-known-place
+enum-known-place c = search needs
 
 writes-requires : tie.Need-writes-requires
 writes-requires c κs = search needs
 
 seen-length-requires : tie.Need-seen-length-requires
-seen-length-requires c κs = search needs
+seen-length-requires c κs =
+    slot-of (at-read-row c .read-row .result .blob) (c .before .before .place2 .given .0 .0) (sym (at-place c .place .ensures) ∙ c .before .before .place2 .given .1)
 
-returns : tie.Need-returns
-returns c =
-    λ n d g i h _.
-    let start = entry (at-state-bits c) in
-    let a = start .args in
-    let e = at-state-bits c .before .read-row .result in
-    let size = c .seen-length .ensures ∙ ap (λ (b : Bool). cond b (getD (a .control .«staged_len») (e .blob) 0) (getD (a .control .«committed_len») (e .blob) 0)) (c .before .writes .ensures) in
-    ap₂ (λ (x y : ℕ). reply (statFields x y)) (at-state-bits c .state-bits .ensures) size ∙ ap reply (slot-stat (a .r) (whole start n d g i h) e
-    (at-state-bits c .before .read-row .ensures) (in-then1 c .if1 .taken))
+enum-told : tie.Need-enum-told
+enum-told c = search needs
 
 kind-of-requires : tie.Need-kind-of-requires
 kind-of-requires c κs = search needs
@@ -64,16 +79,25 @@ kind-of-requires c κs = search needs
 flash-length-requires : tie.Need-flash-length-requires
 flash-length-requires c κs = search needs
 
+returns : tie.Need-returns
+returns c =
+    λ n d g i h _.
+    let a = entry c .args in
+    let e = at-read-row₂ c .read-row in
+    let k = at-place2 c .place2 .given in
+    let size = c .seen-length .ensures ∙ ap (λ (b : Bool). cond b (getD (a .control .«staged_len») (k .0 .0) 0) (getD (a .control .«committed_len») (k .0 .0) 0)) (c .before .writes .ensures) in
+    ap₂ (λ (x y : ℕ). reply (statFields x y)) (at-state-bits c .state-bits .ensures) size
+    ∙ ap reply (slot-stat (a .r) (whole (entry c) n d g i h) (e .result) (e .ensures) (k .0 .0) (sym (at-place₂ c .place .ensures) ∙ k .1))
+
 returns-2 : tie.Need-returns-2
 returns-2 c =
     λ n d g i h _.
-    let start = entry (at-state-bits₂ c) in
-    let a = start .args in
-    let e = at-state-bits₂ c .before .read-row .result in
-    let size = c .flash-length .ensures (a .table .now) n d g i h ∙ ap (λ (k : FlashKind). flashLength k ((whole start n d g i h) .flashGroup))
-    (c .before .kind-of .ensures) in
-    ap₂ (λ (x y : ℕ). reply (statFields x y)) (at-state-bits₂ c .state-bits .ensures) size ∙ ap reply (flash-stat (a .r) (whole start n d g i h) e
-    (at-state-bits₂ c .before .read-row .ensures) (c .before .before .if1 .left))
+    let a = entry₂ c .args in
+    let e = at-read-row₃ c .read-row in
+    let s = whole (entry₂ c) n d g i h in
+    let size = c .flash-length .ensures (a .table .now) n d g i h ∙ ap (λ (k : FlashKind). flashLength k (s .flashGroup)) (c .before .kind-of .ensures) in
+    ap₂ (λ (x y : ℕ). reply (statFields x y)) (at-state-bits₂ c .state-bits .ensures) size
+    ∙ ap reply (flash-stat (a .r) s (e .result) (e .ensures) (sym (at-place₃ c .place .ensures) ∙ c .before .before .enum-told .given .1))
 
 pub stat-row-spec : {M : Type 1} → statement M
 stat-row-spec =
@@ -81,11 +105,12 @@ stat-row-spec =
     (tie.spec
     read-row-requires
     state-bits-requires
-    cast-if1
-    cast-seen-length
+    place-requires
+    enum-known-place
     writes-requires
     seen-length-requires
-    returns
+    enum-told
     kind-of-requires
     flash-length-requires
+    returns
     returns-2)

@@ -65,7 +65,11 @@ enum-told : tie.Need-enum-told
 enum-told c = search needs
 
 returns : tie.Need-returns
-returns c = λ d g i h _. let a = entry c .args in let s = stateOf (a .control) (a .table .now) (a .names .now) d g i h in store-none (a .start) (a .len) (a .message .now) s (slot-in s (c .before .before .find-name .ensures) (c .enum-told .given .1))
+returns c =
+    λ d g i h _.
+    let a = entry c .args in
+    let s = stateOf (a .control) (a .table .now) (a .names .now) d g i h in
+    store-none (a .start) (a .len) (a .message .now) s (slot-in s (c .before .before .find-name .ensures) (c .enum-told .given .1))
 
 cast-t12 : tie.Need-cast-t12
 cast-t12 c = let l : c .before .k .given .0 .0 < slotCount = slot-low (at-find-name c .find-name .ensures) (c .before .k .given .1) in omega arith
@@ -98,7 +102,8 @@ returns-3 c =
     λ d g i h x.
     let a = entry₆ c .args in
     let s = stateOf (a .control) (a .table .now) (a .names .now) d g i h in
-    c .stat-row .ensures (a .names .now) d g i h x ∙ store-open (a .start) (a .len) (a .message .now) s (at-k₃ c .k .given .0 .0) (slot-in s (at-find-name₄ c .find-name .ensures) (at-k₃ c .k .given .1)) (c .before .before .r .given .0 .0) (row-in s (at-find-row₃ c .find-row .ensures) (c .before .before .r .given .1))
+    c .stat-row .ensures (a .names .now) d g i h x ∙ store-open (a .start) (a .len) (a .message .now) s (at-k₃ c .k .given .0 .0) (slot-in s (at-find-name₄ c .find-name .ensures) (at-k₃ c .k .given .1))
+    (c .before .before .r .given .0 .0) (row-in s (at-find-row₃ c .find-row .ensures) (c .before .before .r .given .1))
 
 pub stat-store-spec : {M : Type 1} → statement M
 stat-store-spec =

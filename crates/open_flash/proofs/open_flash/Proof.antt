@@ -165,7 +165,8 @@ returns-4 c =
     let a = entry₄ c .args in
     let t = a .table .now in
     let s = stateOf (a .control) t n d g (a .image .now) (a .hash .now) in
-    flash-no-row (a .kind) (a .flags) (a .clock) s (at-if1₂ c .if1 .left) (sym (at-flash-listed₂ c .flash-listed .ensures) ∙ not-false _ (at-if2₂ c .if2 .left)) (row-in s (at-find-row c .find-row .ensures) (at-enum-told c .enum-told .given .1)) (sym (c .before .before .lowest-free .ensures) ∙ ap optionOf (c .enum-told3 .given .1))
+    flash-no-row (a .kind) (a .flags) (a .clock) s (at-if1₂ c .if1 .left) (sym (at-flash-listed₂ c .flash-listed .ensures) ∙ not-false _ (at-if2₂ c .if2 .left))
+    (row-in s (at-find-row c .find-row .ensures) (at-enum-told c .enum-told .given .1)) (sym (c .before .before .lowest-free .ensures) ∙ ap optionOf (c .enum-told3 .given .1))
 
 number-requires : tie.Need-number-requires
 number-requires c κs = search needs
@@ -196,7 +197,9 @@ returns-5 c =
     let s = stateOf (a .control) t n d g (a .image .now) (a .hash .now) in
     c .before .before .open-row .ensures n d g (at-empty-flash₂ c .empty-flash .last .1 .1 .0) (at-empty-flash₂ c .empty-flash .last .1 .1 .1 .0) x
     ∙ ap (rowOpened (at-r₂ c .r .given .0 .0) (at-number c .number .result) (a .flags) 0 (a .clock)) (at-empty-flash₂ c .empty-flash .ensures t n d g)
-    ∙ flash-ok (a .kind) (a .flags) (a .clock) s (at-if1₃ c .if1 .left) (sym (at-flash-listed₃ c .flash-listed .ensures) ∙ not-false _ (at-if2₃ c .if2 .left)) (row-in s (at-find-row₂ c .find-row .ensures) (at-enum-told₂ c .enum-told .given .1)) (at-r₂ c .r .given .0 .0) (at-number c .number .result) (at-number c .number .ensures) (sym (at-lowest-free₂ c .lowest-free .ensures) ∙ ap optionOf (at-r₂ c .r .given .1))
+    ∙ flash-ok (a .kind) (a .flags) (a .clock) s (at-if1₃ c .if1 .left) (sym (at-flash-listed₃ c .flash-listed .ensures) ∙ not-false _ (at-if2₃ c .if2 .left))
+    (row-in s (at-find-row₂ c .find-row .ensures) (at-enum-told₂ c .enum-told .given .1)) (at-r₂ c .r .given .0 .0) (at-number c .number .result) (at-number c .number .ensures)
+    (sym (at-lowest-free₂ c .lowest-free .ensures) ∙ ap optionOf (at-r₂ c .r .given .1))
 
 pub open-flash-spec : {M : Type 1} → statement M
 open-flash-spec =

@@ -111,8 +111,10 @@ cast-open-row-2 c = search needs
 open-row-requires : tie.Need-open-row-requires
 open-row-requires c κs =
     let a = entry₃ c .args in
-    let e : (at-stage-slot c) .stage-slot .result .next ≡ a .control .next = ap (λ (s : State). s .next) (at-stage-slot c .stage-slot .ensures [] [] [] []) in
-    ((found (clear (a .control .rows)) slotCount (at-r c .r .given .0 .0) (sym (at-lowest-free c .lowest-free .ensures) ∙ ap optionOf (at-r c .r .given .1)) .low), (omega arith, (omega (arith, e, entry₃ c .pre .1 .0), entry₃ c .pre .1 .1 .0)))
+    let e : (at-stage-slot c) .stage-slot .result .next ≡ a .control .next = ap (λ (s : State). s .next) (at-stage-slot c .stage-slot .ensures [] [] [] []) in (
+      (found (clear (a .control .rows)) slotCount (at-r c .r .given .0 .0) (sym (at-lowest-free c .lowest-free .ensures) ∙ ap optionOf (at-r c .r .given .1)) .low),
+      (omega arith, (omega (arith, e, entry₃ c .pre .1 .0), entry₃ c .pre .1 .1 .0)),
+    )
 
 same-length-3 : tie.Need-same-length-3
 same-length-3 c = search needs
@@ -127,7 +129,8 @@ returns-3 c =
     let s = stateOf (a .control) (a .table .now) n (a .committed .now) (a .staged .now) i h in
     c .before .before .open-row .ensures n (a .committed .now) (at-stage-slot₂ c .stage-slot .last .1 .1 .1 .1 .0) i h x
     ∙ ap (rowOpened (at-r₂ c .r .given .0 .0) (a .k) (a .flags) 1 (a .clock)) (at-stage-slot₂ c .stage-slot .ensures (a .table .now) n i h)
-    ∙ held-ok (a .k) (a .flags) (a .clock) s (row-in s (at-find-row₂ c .find-row .ensures) (at-enum-told₂ c .enum-told .given .1)) (at-r₂ c .r .given .0 .0) (sym (at-lowest-free₂ c .lowest-free .ensures) ∙ ap optionOf (at-r₂ c .r .given .1))
+    ∙ held-ok (a .k) (a .flags) (a .clock) s (row-in s (at-find-row₂ c .find-row .ensures) (at-enum-told₂ c .enum-told .given .1)) (at-r₂ c .r .given .0 .0)
+    (sym (at-lowest-free₂ c .lowest-free .ensures) ∙ ap optionOf (at-r₂ c .r .given .1))
 
 pub open-held-spec : {M : Type 1} → statement M
 open-held-spec =

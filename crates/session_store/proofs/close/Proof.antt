@@ -11,37 +11,63 @@ use borrow.Author.Needs.{needs}
 use Rattle.session_store.proofs.close.Statement.{statement}
 use Rattle.session_store.proofs.close.Tie as tie
 
--- the state at entry, with the buffers that are not lent
-abbrev whole : tie.Start → List ℕ → List ℕ → State
-whole c image hash = let a = c .args in stateOf (a .control) (a .table .now) (a .names .now) (a .committed .now) (a .staged .now) image hash
-
 -- the places that the answers read
-abbrev entry : tie.After-writes → tie.Start
-entry c = c .before .before .before .before .before .before .before .before .before .before
+abbrev entry : tie.Then1 → tie.Start
+entry c = c .before .before .before .before .before .before .before .before .before .before .before
 
-abbrev at-clear-row : tie.After-writes → tie.After-clear-row
-at-clear-row c = c .before .before .before .before
+abbrev at-clear-row : tie.Then1 → tie.After-clear-row
+at-clear-row c = c .before .before .before .before .before
 
-abbrev at-writes : tie.After-slice-known8 → tie.After-writes
-at-writes c = c .before .before .before .before .before .before .before .before .before .before .before .before .before .before
-
-abbrev at-writes₂ : tie.After-slice-known9 → tie.After-writes
-at-writes₂ c = c .before .before .before .before .before .before .before .before
-
-abbrev in-else1 : tie.After-slice-known8 → tie.Else1
-in-else1 c = c .before .before .before .before .before .before .before .before .before .before .before .before .before
-
-abbrev in-else1₂ : tie.After-slice-known9 → tie.Else1
-in-else1₂ c = c .before .before .before .before .before .before .before
-
-abbrev in-then2 : tie.After-slice-known8 → tie.Then2
-in-then2 c = c .before .before .before .before .before .before .before .before .before .before
+abbrev entry₂ : tie.After-slice-known8 → tie.Start
+entry₂ c =
+    c .before .before .before .before .before .before .before .before .before .before .before .before .before .before
+    .before .before .before .before .before .before .before .before .before
 
 abbrev at-free-slot : tie.After-slice-known8 → tie.After-free-slot
 at-free-slot c = c .before .before .before .before .before .before
 
-abbrev in-else2 : tie.After-slice-known9 → tie.Else2
-in-else2 c = c .before .before .before .before
+abbrev at-clear-row₂ : tie.After-slice-known8 → tie.After-clear-row
+at-clear-row₂ c =
+    c .before .before .before .before .before .before .before .before .before .before .before .before .before .before
+    .before .before .before
+
+abbrev at-clear-bit₂ : tie.After-slice-known8 → tie.After-clear-bit
+at-clear-bit₂ c = c .before .before .before .before .before .before .before .before .before .before .before .before .before .before
+
+abbrev at-writes₂ : tie.After-slice-known8 → tie.After-writes
+at-writes₂ c = c .before .before .before .before .before .before .before .before .before .before .before .before .before
+
+abbrev at-if1 : tie.After-slice-known8 → tie.Else1
+at-if1 c = c .before .before .before .before .before .before .before .before .before .before .before .before
+
+abbrev at-has : tie.After-slice-known8 → tie.After-has
+at-has c = c .before .before .before .before .before .before .before .before .before .before .before
+
+abbrev at-if2 : tie.After-slice-known8 → tie.Then2
+at-if2 c = c .before .before .before .before .before .before .before .before .before .before
+
+abbrev entry₃ : tie.After-slice-known9 → tie.Start
+entry₃ c =
+    c .before .before .before .before .before .before .before .before .before .before .before .before .before .before
+    .before .before .before
+
+abbrev at-clear-row₃ : tie.After-slice-known9 → tie.After-clear-row
+at-clear-row₃ c = c .before .before .before .before .before .before .before .before .before .before .before
+
+abbrev at-clear-bit₃ : tie.After-slice-known9 → tie.After-clear-bit
+at-clear-bit₃ c = c .before .before .before .before .before .before .before .before
+
+abbrev at-writes₃ : tie.After-slice-known9 → tie.After-writes
+at-writes₃ c = c .before .before .before .before .before .before .before
+
+abbrev at-if1₂ : tie.After-slice-known9 → tie.Else1
+at-if1₂ c = c .before .before .before .before .before .before
+
+abbrev at-has₂ : tie.After-slice-known9 → tie.After-has
+at-has₂ c = c .before .before .before .before .before
+
+abbrev at-if2₂ : tie.After-slice-known9 → tie.Else2
+at-if2₂ c = c .before .before .before .before
 
 clear-row-requires : tie.Need-clear-row-requires
 clear-row-requires c κs = search needs
@@ -57,14 +83,10 @@ same-length c = search needs
 
 returns : tie.Need-returns
 returns c =
-    let start = entry (c .before) in
-    let a = start .args in
-    λ (t : ℕ) (im h x : List ℕ). close-read (whole start im h) (a .r) (a .e)
-    (start .pre .0 .row-words) (start .pre .1 .0) t (at-clear-row (c .before) .clear-row .last .0) (c .before .before .clear-bit .result)
-    (at-clear-row (c .before) .clear-row .ensures) (c .before .before .clear-bit .ensures) (sym (c .before .writes .ensures) ∙ not-true _ (c .if1 .taken))
-
-cast-k : tie.Need-cast-k
-cast-k c = search needs
+    let a = entry c .args in
+    λ (t : ℕ) (im h x : List ℕ). close-read (stateOf (a .control) (a .table .now) (a .names .now) (a .committed .now) (a .staged .now) im h) (a .r) (a .e) (entry c .pre .0 .row-words)
+    (entry c .pre .1 .0) t (at-clear-row c .clear-row .last .0) (c .before .before .clear-bit .result) (at-clear-row c .clear-row .ensures) (c .before .before .clear-bit .ensures)
+    (sym (c .before .writes .ensures) ∙ not-true _ (c .if1 .taken))
 
 has-requires : tie.Need-has-requires
 has-requires c κs = search needs
@@ -86,13 +108,11 @@ same-length-5 c = search needs
 
 returns-2 : tie.Need-returns-2
 returns-2 c =
-    let writes = at-writes c in
-    let start = entry writes in
-    let a = start .args in
-    λ (t : ℕ) (im h x : List ℕ). ap (λ (y : State). (done, y)) (at-free-slot c .free-slot .ensures (at-clear-row writes .clear-row .last .0) im h) ∙ close-fresh
-    (whole start im h) (a .r) (a .e) (start .pre .0 .row-words) (start .pre .1 .0) t
-    (at-clear-row writes .clear-row .last .0) (writes .before .clear-bit .result) (at-clear-row writes .clear-row .ensures) (writes .before .clear-bit .ensures)
-    (sym (writes .writes .ensures) ∙ not-false _ (in-else1 c .if1 .left)) (flag-false (in-then2 c .before .has .ensures) (in-then2 c .if2 .taken))
+    let a = entry₂ c .args in
+    λ (t : ℕ) (im h x : List ℕ). ap (λ (y : State). (done, y)) (at-free-slot c .free-slot .ensures (at-clear-row₂ c .clear-row .last .0) im h)
+    ∙ close-fresh (stateOf (a .control) (a .table .now) (a .names .now) (a .committed .now) (a .staged .now) im h) (a .r) (a .e) (entry₂ c .pre .0 .row-words) (entry₂ c .pre .1 .0) t (at-clear-row₂ c .clear-row .last .0)
+    (at-clear-bit₂ c .clear-bit .result) (at-clear-row₂ c .clear-row .ensures) (at-clear-bit₂ c .clear-bit .ensures) (sym (at-writes₂ c .writes .ensures) ∙ not-false _ (at-if1 c .if1 .left))
+    (flag-false (at-has c .has .ensures) (at-if2 c .if2 .taken))
 
 clear-region-requires : tie.Need-clear-region-requires
 clear-region-requires c κs = search needs
@@ -111,14 +131,10 @@ same-length-7 c = search needs
 
 returns-3 : tie.Need-returns-3
 returns-3 c =
-    let writes = at-writes₂ c in
-    let start = entry writes in
-    let a = start .args in
-    λ (t : ℕ) (im h x : List ℕ). close-kept (whole start im h) (a .r) (a .e)
-    (start .pre .0 .row-words) (start .pre .1 .0) t (at-clear-row writes .clear-row .last .0) (writes .before .clear-bit .result) (at-clear-row writes .clear-row .ensures)
-    (writes .before .clear-bit .ensures)
-    (c .before .before .clear-region .last .0) (sym (writes .writes .ensures) ∙ not-false _ (in-else1₂ c .if1 .left))
-    (flag-true (in-else2 c .before .has .ensures) (in-else2 c .if2 .left)) (c .before .before .clear-region .ensures)
+    let a = entry₃ c .args in
+    λ (t : ℕ) (im h x : List ℕ). close-kept (stateOf (a .control) (a .table .now) (a .names .now) (a .committed .now) (a .staged .now) im h) (a .r) (a .e) (entry₃ c .pre .0 .row-words)
+    (entry₃ c .pre .1 .0) t (at-clear-row₃ c .clear-row .last .0) (at-clear-bit₃ c .clear-bit .result) (at-clear-row₃ c .clear-row .ensures) (at-clear-bit₃ c .clear-bit .ensures)
+    (c .before .before .clear-region .last .0) (sym (at-writes₃ c .writes .ensures) ∙ not-false _ (at-if1₂ c .if1 .left)) (flag-true (at-has₂ c .has .ensures) (at-if2₂ c .if2 .left)) (c .before .before .clear-region .ensures)
 
 pub close-spec : {M : Type 1} → statement M
 close-spec =
@@ -129,7 +145,6 @@ close-spec =
     writes-requires
     same-length
     returns
-    cast-k
     has-requires
     free-slot-requires
     same-length-2

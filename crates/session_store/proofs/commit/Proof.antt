@@ -5,7 +5,7 @@ use Prim.Native.Nat.{ℕ}
 use borrow.Author.Tests.{not-true, not-false}
 use Rattle.laws.specs.Ranges.{block}
 use Rattle.protocol.specs.Numbers.{rowWords}
-use Rattle.state.specs.State.{State, stateOf}
+use Rattle.state.specs.State.{stateOf}
 use Rattle.state.specs.declared.row.Entry.{Entry}
 use Rattle.state.specs.Entry.{wordsOf, lifted}
 use Rattle.session_store.proofs.Laws.{commit-cc, commit-d5, commit-is}
@@ -13,34 +13,46 @@ use borrow.Author.Needs.{needs}
 use Rattle.session_store.proofs.commit.Statement.{statement}
 use Rattle.session_store.proofs.commit.Tie as tie
 
--- the state at entry, with the buffers that are not lent
-abbrev whole : tie.Start → List ℕ → List ℕ → List ℕ → State
-whole c names image hash = let a = c .args in stateOf (a .t1) (a .table .now) names (a .committed .now) (a .staged .now) image hash
-
 -- the places that the answers read
 abbrev entry : tie.Then1 → tie.Start
 entry c = c .before .before .before .before .before
 
-abbrev entry₂ : tie.After-writes → tie.Start
-entry₂ c = c .before .before .before .before .before .before
+abbrev entry₂ : tie.Then2 → tie.Start
+entry₂ c = c .before .before .before .before .before .before .before
 
-abbrev at-commit-fits : tie.After-writes → tie.After-commit-fits
-at-commit-fits c = c .before .before
+abbrev at-commit-fits₂ : tie.Then2 → tie.After-commit-fits
+at-commit-fits₂ c = c .before .before .before
 
-abbrev at-writes : tie.After-set-bit → tie.After-writes
-at-writes c = c .before .before .before .before .before .before .before .before .before .before .before .before .before .before
+abbrev entry₃ : tie.After-set-bit → tie.Start
+entry₃ c =
+    c .before .before .before .before .before .before .before .before .before .before .before .before .before .before
+    .before .before .before .before .before
 
-abbrev in-else2 : tie.After-set-bit → tie.Else2
-in-else2 c = c .before .before .before .before .before .before .before .before .before .before .before .before .before
+abbrev at-write-row : tie.After-set-bit → tie.After-write-row
+at-write-row c = c .before .before .before .before
 
 abbrev at-copy-region : tie.After-set-bit → tie.After-copy-region
 at-copy-region c = c .before .before .before .before .before .before .before .before .before .before
 
+abbrev at-commit-fits₃ : tie.After-set-bit → tie.After-commit-fits
+at-commit-fits₃ c =
+    c .before .before .before .before .before .before .before .before .before .before .before .before .before .before
+    .before
+
+abbrev at-if1₂ : tie.After-set-bit → tie.Else1
+at-if1₂ c = c .before .before .before .before .before .before .before .before .before .before .before .before .before .before
+
+abbrev at-writes₂ : tie.After-set-bit → tie.After-writes
+at-writes₂ c = c .before .before .before .before .before .before .before .before .before .before .before .before .before
+
+abbrev at-if2 : tie.After-set-bit → tie.Else2
+at-if2 c = c .before .before .before .before .before .before .before .before .before .before .before .before
+
+abbrev at-lifted : tie.After-set-bit → tie.After-lifted
+at-lifted c = c .before .before .before .before .before
+
 abbrev at-with-clean : tie.After-set-bit → tie.After-with-clean
 at-with-clean c = c .before .before .before .before .before .before
-
-abbrev at-write-row : tie.After-set-bit → tie.After-write-row
-at-write-row c = c .before .before .before .before
 
 commit-fits-requires : tie.Need-commit-fits-requires
 commit-fits-requires c κs = search needs
@@ -48,22 +60,17 @@ commit-fits-requires c κs = search needs
 returns : tie.Need-returns
 returns c =
     let a = entry c .args in
-    λ (n im h x : List ℕ). commit-cc (whole (entry c) n im h) (a .r) (a .e) (entry c .pre .0 .row-words) (entry c .pre .1 .0)
-    (a .clock) (a .len) (a .rest) (sym (c .before .commit-fits .ensures) ∙ not-true _ (c .if1 .taken))
+    λ (n im h x : List ℕ). commit-cc (stateOf (a .t1) (a .table .now) n (a .committed .now) (a .staged .now) im h) (a .r) (a .e) (entry c .pre .0 .row-words) (entry c .pre .1 .0) (a .clock) (a .len) (a .rest)
+    (sym (c .before .commit-fits .ensures) ∙ not-true _ (c .if1 .taken))
 
 writes-requires : tie.Need-writes-requires
 writes-requires c κs = search needs
 
 returns-2 : tie.Need-returns-2
 returns-2 c =
-    let start = entry₂ (c .before) in
-    let a = start .args in
-    λ (n im h x : List ℕ). commit-d5 (whole start n im h) (a .r) (a .e) (start .pre .0 .row-words)
-    (start .pre .1 .0) (a .clock) (a .len) (a .rest) (sym (at-commit-fits (c .before) .commit-fits .ensures) ∙ not-false _ (c .before .before .if1 .left))
-    (sym (c .before .writes .ensures) ∙ not-true _ (c .if2 .taken))
-
-cast-k : tie.Need-cast-k
-cast-k c = search needs
+    let a = entry₂ c .args in
+    λ (n im h x : List ℕ). commit-d5 (stateOf (a .t1) (a .table .now) n (a .committed .now) (a .staged .now) im h) (a .r) (a .e) (entry₂ c .pre .0 .row-words) (entry₂ c .pre .1 .0) (a .clock) (a .len) (a .rest)
+    (sym (at-commit-fits₂ c .commit-fits .ensures) ∙ not-false _ (c .before .before .if1 .left)) (sym (c .before .writes .ensures) ∙ not-true _ (c .if2 .taken))
 
 copy-region-requires : tie.Need-copy-region-requires
 copy-region-requires c κs = search needs
@@ -100,15 +107,12 @@ same-length-2 c = search needs
 
 returns-3 : tie.Need-returns-3
 returns-3 c =
-    let writes = at-writes c in
-    let start = entry₂ writes in
-    let a = start .args in
-    λ (n im h x : List ℕ). commit-is (whole start n im h) (a .r) (a .e) (start .pre .0 .row-words) (start .pre .1 .0)
-    (a .clock) (a .len) (a .rest)
-    (at-write-row c .write-row .last .0) (at-copy-region c .copy-region .last .0) (c .set-bit .result) (sym (at-commit-fits writes .commit-fits .ensures) ∙ not-false _
-    (writes .before .if1 .left)) (sym (writes .writes .ensures) ∙ not-false _ (in-else2 c .if2 .left))
-    (at-write-row c .write-row .ensures ∙ ap (λ (y : Entry). block rowWords (a .r) .put (wordsOf y) (a .table .now))
-    (at-write-row c .before .lifted .ensures ∙ ap (λ (y : Entry). lifted y (a .clock)) (at-with-clean c .with-clean .ensures))) (at-copy-region c .copy-region .ensures) (c .set-bit .ensures)
+    let a = entry₃ c .args in
+    λ (n im h x : List ℕ). commit-is (stateOf (a .t1) (a .table .now) n (a .committed .now) (a .staged .now) im h) (a .r) (a .e) (entry₃ c .pre .0 .row-words) (entry₃ c .pre .1 .0) (a .clock) (a .len) (a .rest)
+    (at-write-row c .write-row .last .0) (at-copy-region c .copy-region .last .0) (c .set-bit .result) (sym (at-commit-fits₃ c .commit-fits .ensures) ∙ not-false _ (at-if1₂ c .if1 .left))
+    (sym (at-writes₂ c .writes .ensures) ∙ not-false _ (at-if2 c .if2 .left))
+    (at-write-row c .write-row .ensures ∙ ap (λ (y : Entry). block rowWords (a .r) .put (wordsOf y) (a .table .now)) (at-lifted c .lifted .ensures ∙ ap (λ (y : Entry). lifted y (a .clock)) (at-with-clean c .with-clean .ensures)))
+    (at-copy-region c .copy-region .ensures) (c .set-bit .ensures)
 
 pub commit-spec : {M : Type 1} → statement M
 commit-spec =
@@ -118,7 +122,6 @@ commit-spec =
     returns
     writes-requires
     returns-2
-    cast-k
     copy-region-requires
     with-clean-requires
     lifted-requires

@@ -14,19 +14,19 @@ use Rattle.session_store.proofs.stat.Tie as tie
 
 -- the places that the answers read
 abbrev entry : tie.After-slice-known2 → tie.Start
-entry c = c .before .before .before .before .before .before .before .before .before .before
-
-abbrev at-writes : tie.After-slice-known2 → tie.After-writes
-at-writes c = c .before .before .before .before .before .before .before
+entry c = c .before .before .before .before .before .before .before .before .before
 
 abbrev at-state-bits : tie.After-slice-known2 → tie.After-state-bits
 at-state-bits c = c .before .before .before .before .before
 
+abbrev at-seen-length : tie.After-slice-known2 → tie.After-seen-length
+at-seen-length c = c .before .before .before .before .before .before
+
+abbrev at-writes : tie.After-slice-known2 → tie.After-writes
+at-writes c = c .before .before .before .before .before .before .before
+
 abbrev at-lifted : tie.After-slice-known2 → tie.After-lifted
 at-lifted c = c .before .before .before
-
-cast-seen-length : tie.Need-cast-seen-length
-cast-seen-length c = search needs
 
 writes-requires : tie.Need-writes-requires
 writes-requires c κs = search needs
@@ -48,18 +48,16 @@ same-length c = search needs
 
 returns : tie.Need-returns
 returns c =
-    let start = entry c in
-    let a = start .args in
-    λ (n cm g im h x : List ℕ). stat-is (stateOf (a .control) (a .table .now) n cm g im h) (a .r) (a .e) (start .pre .0 .row-words) (start .pre .1) (a .clock)
-    (at-state-bits c .state-bits .result) (at-state-bits c .before .seen-length .result) (at-writes c .writes .result) (c .before .before .write-row .last .0)
-    (at-writes c .writes .ensures) (at-state-bits c .state-bits .ensures) (at-state-bits c .before .seen-length .ensures)
+    let a = entry c .args in
+    λ (n cm g im h x : List ℕ). stat-is (stateOf (a .control) (a .table .now) n cm g im h) (a .r) (a .e) (entry c .pre .0 .row-words) (entry c .pre .1) (a .clock) (at-state-bits c .state-bits .result)
+    (at-seen-length c .seen-length .result) (at-writes c .writes .result) (c .before .before .write-row .last .0)
+    (at-writes c .writes .ensures) (at-state-bits c .state-bits .ensures) (at-seen-length c .seen-length .ensures)
     (c .before .before .write-row .ensures ∙ ap (λ (y : Entry). block rowWords (a .r) .put (wordsOf y) (a .table .now)) (at-lifted c .lifted .ensures))
 
 pub stat-spec : {M : Type 1} → statement M
 stat-spec =
     tie.close
     (tie.spec
-    cast-seen-length
     writes-requires
     seen-length-requires
     state-bits-requires
