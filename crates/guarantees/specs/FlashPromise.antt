@@ -675,7 +675,9 @@ update-phase s g x l e =
 
 update-stands : (s : State) (e : Event) → isSound s ≡ true → startsUpdate s e ≡ true → Stands s
 unfolding jobState
-update-stands s e h st = go (rowFound (OnBlob updateBlob) (next s e)) refl (eqb-true (statusAt (rowFound (OnBlob updateBlob) (next s e)) (next s e)) 1 (and-true (not (eqb (jobState Update s) running)) (eqb (jobState Update (next s e)) running) st .1))
+update-stands s e h st =
+    go (rowFound (OnBlob updateBlob) (next s e)) refl
+    (eqb-true (statusAt (rowFound (OnBlob updateBlob) (next s e)) (next s e)) 1 (and-true (not (eqb (jobState Update s) running)) (eqb (jobState Update (next s e)) running) st .1))
   where
     go : (o : Option ℕ) → rowFound (OnBlob updateBlob) (next s e) ≡ o → statusAt o (next s e) ≡ running → Stands s
     go none q z = absurd (omega arith)

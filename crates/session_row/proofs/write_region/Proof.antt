@@ -5,6 +5,16 @@ use borrow.Author.Needs.{needs}
 use Rattle.session_row.proofs.write_region.Statement.{statement}
 use Rattle.session_row.proofs.write_region.Tie as tie
 
+-- the places that the answers read
+abbrev in-else1 : tie.After-max-u32 → tie.Else1
+in-else1 c = c .before .before .before .before .before .before
+
+abbrev in-else2 : tie.After-max-u32 → tie.Else2
+in-else2 c = c .before .before .before .before .before
+
+abbrev at-copy-at : tie.After-max-u32 → tie.After-copy-at
+at-copy-at c = c .before .before .before
+
 returns : tie.Need-returns
 returns c = (rw (lt-leb _ _ (c .if1 .taken)), refl)
 
@@ -30,7 +40,7 @@ same-length : tie.Need-same-length
 same-length c = search needs
 
 returns-3 : tie.Need-returns-3
-returns-3 c = (rw (le-leb _ _ (c .before .before .before .before .before .before .if1 .left), le-leb _ _ (c .before .before .before .before .before .if2 .left), c .max-u32 .ensures), c .before .before .before .copy-at .ensures)
+returns-3 c = (rw (le-leb _ _ (in-else1 c .if1 .left), le-leb _ _ (in-else2 c .if2 .left), c .max-u32 .ensures), at-copy-at c .copy-at .ensures)
 
 pub write-region-spec : {M : Type 1} → statement M
 write-region-spec =
