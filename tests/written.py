@@ -1,4 +1,4 @@
-"""The files that a script of this folder makes for the program crate of its name: written, or compared with those that stand there."""
+"""The files that a script of this folder makes for a program crate: written, or compared with those that stand there."""
 import pathlib
 import sys
 
@@ -12,4 +12,4 @@ def write_or_check(crate, made):
         if sys.argv[1:] == ["--write"]:
             path.write_bytes(data)
         elif path.read_bytes() != data:
-            sys.exit(f"crates/{crate}/{name} is not what tests/{crate}.py makes")
+            sys.exit(f"crates/{crate}/{name} is not what tests/{pathlib.Path(sys.argv[0]).name} makes")

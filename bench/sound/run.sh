@@ -8,7 +8,7 @@ cp -r "$here/../../crates" "$here/../../crates.txt" "$copy"
 [ -d "$here/../../target" ] && cp -r "$here/../../target" "$copy"
 mkdir -p "$copy/crates/soundapi/src"
 cp "$here/soundapi.txt" "$copy/crates/soundapi/src/lib.rt"
-echo "soundapi: laws protocol naming state sound_rows sound_slots sound" >>"$copy/crates.txt"
+echo "soundapi: state sound" >>"$copy/crates.txt"
 (cd "$copy" && rt staticlib soundapi >"$copy/staticlib.log" 2>&1) || { tail -40 "$copy/staticlib.log"; exit 1; }
 ${CC:-cc} -O3 -c "$here/or_all.c" -o "$copy/or_all.o"
 ${CC:-cc} -O3 "$here/bench.c" "$copy/or_all.o" "$copy/target/staticlib/libsoundapi.a" -o "$copy/bench"

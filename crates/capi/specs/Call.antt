@@ -19,7 +19,7 @@ pub record Memory : Type 0 where
   pub hash : List ℕ
 
 -- of these: control words, table, names, committed, staged, image, hash
-abbrev pub memory : List ℕ → List ℕ → List ℕ → List ℕ → List ℕ → List ℕ → List ℕ → Memory
+abbrev pub memory : (control table names committed staged image hash : List ℕ) → Memory
 memory w t n c g i h = record { control = w; table = t; names = n; committed = c; staged = g; image = i; hash = h }
 
 -- the state in a memory

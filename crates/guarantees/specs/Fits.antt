@@ -60,15 +60,15 @@ stat-short a b = rw (length-append, bytes-long, length-append, bytes-long) (omeg
 
 -- ---- sessions
 module _ (r : Row) (b : Slot) where
-  short-stored : (ws : List ℕ) (t i : ℕ) → Short (stored ws t i r b .0)
+  short-stored : (ws : List ℕ) (t i : ℕ) → Short (stored t i ws r b .0)
   unfolding stored
   short-stored [] t i = tt
   short-stored (w ∷ ws) t i = tt
 
-  short-write : (y : Bool) (ws : List ℕ) (t i : ℕ) → Short (writeStore y ws t i r b .0)
+  short-write : (y : Bool) (ws : List ℕ) (t i : ℕ) → Short (writeStore y t i ws r b .0)
   unfolding writeStore
   short-write true ws t i =
-      placed-has slotSize (b .stagedLen) i (length ws) r b (stored ws t i r b) (λ (o : Out Slot). Short (o .0)) (λ (h : i ≤ b .stagedLen) (l : i + length ws ≤ slotSize). short-stored ws t i) (λ (code : ℕ). tt)
+      placed-has slotSize (b .stagedLen) i (length ws) r b (stored t i ws r b) (λ (o : Out Slot). Short (o .0)) (λ (h : i ≤ b .stagedLen) (l : i + length ws ≤ slotSize). short-stored ws t i) (λ (code : ℕ). tt)
   short-write false ws t i = tt
 
   short-writing : (y : Bool) (t : ℕ) → Short (commitWriting y t r b .0)
@@ -96,7 +96,7 @@ module _ (r : Row) (b : Slot) where
   short-store t (endJob g) = tt
 
 module _ (r : Row) (b : FlashBody) where
-  short-flash-write : (k : FlashKind) (ws : List ℕ) (t i : ℕ) → Short (writeFlash k ws t i r b .0)
+  short-flash-write : (k : FlashKind) (ws : List ℕ) (t i : ℕ) → Short (writeFlash k t i ws r b .0)
   unfolding writeFlash
   short-flash-write Image ws t i = placed-has imageSize (b .imageLen) i (length ws) r b _ (λ (o : Out FlashBody). Short (o .0)) (λ (h : i ≤ b .imageLen) (l : i + length ws ≤ imageSize). tt) (λ (code : ℕ). tt)
   short-flash-write Hash ws t i = placed-has hashSize (b .hashLen) i (length ws) r b _ (λ (o : Out FlashBody). Short (o .0)) (λ (h : i ≤ b .hashLen) (l : i + length ws ≤ hashSize). tt) (λ (code : ℕ). tt)

@@ -130,10 +130,10 @@ module _ (r : Row) (b : FlashBody) (fr : FitsRow r) (fi : length (b .image) ≡ 
   moved : (p : Phase) → p ≢ Idle → FlashIdle (withPhase p b)
   moved p n = record { image-fits = ses .lengths .image-fits; hash-fits = ses .lengths .hash-fits; idle-image = λ (h : p ≡ Idle). absurd (n h); idle-hash = λ (h : p ≡ Idle). absurd (n h) }
 
-  on-image : (ws : List ℕ) (t i : ℕ) → b .phase ≡ Uploading → i + length ws ≤ imageSize → Fine (stamped t r, withImage (bytesAfter ws i (b .image)) (lengthAfter ws i (b .imageLen)) b)
+  on-image : (ws : List ℕ) (t i : ℕ) → b .phase ≡ Uploading → i + length ws ≤ imageSize → Fine (stamped t r, withImage (bytesAfter i ws (b .image)) (lengthAfter i ws (b .imageLen)) b)
   on-image ws t i up h =
       let g : b .imageLen ≤ imageSize = ses .lengths .image-fits in
-      rebodied t (withImage (bytesAfter ws i (b .image)) (lengthAfter ws i (b .imageLen)) b) (length-sets (b .image) i ws ∙ fi, fh) (ses .phased)
+      rebodied t (withImage (bytesAfter i ws (b .image)) (lengthAfter i ws (b .imageLen)) b) (length-sets (b .image) i ws ∙ fi, fh) (ses .phased)
       (record {
         image-fits = omega arith;
         hash-fits = ses .lengths .hash-fits;
@@ -141,10 +141,10 @@ module _ (r : Row) (b : FlashBody) (fr : FitsRow r) (fi : length (b .image) ≡ 
         idle-hash = ses .lengths .idle-hash;
       })
 
-  on-hash : (ws : List ℕ) (t i : ℕ) → b .phase ≡ Uploading → i + length ws ≤ hashSize → Fine (stamped t r, withHash (bytesAfter ws i (b .hash)) (lengthAfter ws i (b .hashLen)) b)
+  on-hash : (ws : List ℕ) (t i : ℕ) → b .phase ≡ Uploading → i + length ws ≤ hashSize → Fine (stamped t r, withHash (bytesAfter i ws (b .hash)) (lengthAfter i ws (b .hashLen)) b)
   on-hash ws t i up h =
       let g : b .hashLen ≤ hashSize = ses .lengths .hash-fits in
-      rebodied t (withHash (bytesAfter ws i (b .hash)) (lengthAfter ws i (b .hashLen)) b) (fi, length-sets (b .hash) i ws ∙ fh) (ses .phased)
+      rebodied t (withHash (bytesAfter i ws (b .hash)) (lengthAfter i ws (b .hashLen)) b) (fi, length-sets (b .hash) i ws ∙ fh) (ses .phased)
       (record {
         image-fits = ses .lengths .image-fits;
         hash-fits = omega arith;
@@ -152,7 +152,7 @@ module _ (r : Row) (b : FlashBody) (fr : FitsRow r) (fi : length (b .image) ≡ 
         idle-hash = λ (e : b .phase ≡ Idle). absurd (uploading-not-idle (sym up ∙ e));
       })
 
-  on-write : (k : FlashKind) (ws : List ℕ) (t i : ℕ) → PhaseOk k (statusOf r) (b .phase) → Fine (writeFlash k ws t i r b .1)
+  on-write : (k : FlashKind) (ws : List ℕ) (t i : ℕ) → PhaseOk k (statusOf r) (b .phase) → Fine (writeFlash k t i ws r b .1)
   unfolding writeFlash
   on-write Image ws t i ph =
       placed-has imageSize (b .imageLen) i (length ws) r b _ (λ (o : Out FlashBody). Fine (o .1)) (λ (h : i ≤ b .imageLen) (l : i + length ws ≤ imageSize). on-image ws t i (ph .1) l) (λ (code : ℕ). same)

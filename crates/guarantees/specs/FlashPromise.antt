@@ -181,7 +181,7 @@ module _ (t : ℕ) (r : Row) (b : FlashBody) (four : length (r .words) ≡ rowWo
   two-not : (c : Command) (v : ℕ) → v < 4 → v ≢ succeeded → Two c (stamped t (withStatus v r))
   two-not c v l n h = absurd (n (sym (status-set v r four l) ∙ sym (stamped-status t (withStatus v r)) ∙ h))
 
-  two-write : (c : Command) (k : FlashKind) (ws : List ℕ) (i : ℕ) → Two c (writeFlash k ws t i r b .1 .0)
+  two-write : (c : Command) (k : FlashKind) (ws : List ℕ) (i : ℕ) → Two c (writeFlash k t i ws r b .1 .0)
   unfolding writeFlash
   two-write c Image ws i =
       placed-has imageSize (b .imageLen) i (length ws) r b _ (λ (o : Out FlashBody). Two c (o .1 .0)) (λ (h : i ≤ b .imageLen) (l : i + length ws ≤ imageSize). two-later c) (λ (code : ℕ). two-same c)
@@ -243,7 +243,7 @@ module _ (t : ℕ) (r : Row) (b : FlashBody) (four : length (r .words) ≡ rowWo
   ver-idle : (k : FlashKind) → Ver k emptyFlash
   ver-idle k h = absurd (let z : _≡_ {A = ℕ} 0 1 = cc in omega arith)
 
-  ver-write : (k j : FlashKind) (ws : List ℕ) (i : ℕ) → Ver k (writeFlash j ws t i r b .1 .1)
+  ver-write : (k j : FlashKind) (ws : List ℕ) (i : ℕ) → Ver k (writeFlash j t i ws r b .1 .1)
   unfolding writeFlash
   ver-write k Image ws i =
       placed-has imageSize (b .imageLen) i (length ws) r b _ (λ (o : Out FlashBody). Ver k (o .1 .1)) (λ (h : i ≤ b .imageLen) (l : i + length ws ≤ imageSize). ver-same k) (λ (code : ℕ). ver-same k)

@@ -50,15 +50,15 @@ Keeps s o = Refusal (o .0) → o .1 ≡ s
 
 -- ---- a store session's part
 module _ (r : Row) (b : Slot) where
-  keep-stored : (ws : List ℕ) (t i : ℕ) → Keeps (r, b) (stored ws t i r b)
+  keep-stored : (ws : List ℕ) (t i : ℕ) → Keeps (r, b) (stored t i ws r b)
   unfolding stored
   keep-stored [] t i h = absurd h
   keep-stored (w ∷ ws) t i h = absurd h
 
-  keep-write : (y : Bool) (ws : List ℕ) (t i : ℕ) → Keeps (r, b) (writeStore y ws t i r b)
+  keep-write : (y : Bool) (ws : List ℕ) (t i : ℕ) → Keeps (r, b) (writeStore y t i ws r b)
   unfolding writeStore
   keep-write true ws t i =
-      placed-has slotSize (b .stagedLen) i (length ws) r b (stored ws t i r b) (Keeps (r, b)) (λ (h : i ≤ b .stagedLen) (l : i + length ws ≤ slotSize). keep-stored ws t i) (λ (code : ℕ) h. refl)
+      placed-has slotSize (b .stagedLen) i (length ws) r b (stored t i ws r b) (Keeps (r, b)) (λ (h : i ≤ b .stagedLen) (l : i + length ws ≤ slotSize). keep-stored ws t i) (λ (code : ℕ) h. refl)
   keep-write false ws t i = λ h. refl
 
   keep-writing : (y : Bool) (t : ℕ) → Keeps (r, b) (commitWriting y t r b)
@@ -87,7 +87,7 @@ module _ (r : Row) (b : Slot) where
 
 -- ---- the flash session's part
 module _ (r : Row) (b : FlashBody) where
-  keep-flash-write : (k : FlashKind) (ws : List ℕ) (t i : ℕ) → Keeps (r, b) (writeFlash k ws t i r b)
+  keep-flash-write : (k : FlashKind) (ws : List ℕ) (t i : ℕ) → Keeps (r, b) (writeFlash k t i ws r b)
   unfolding writeFlash
   keep-flash-write Image ws t i = placed-has imageSize (b .imageLen) i (length ws) r b _ (Keeps (r, b)) (λ (h : i ≤ b .imageLen) (l : i + length ws ≤ imageSize) x. absurd x) (λ (code : ℕ) h. refl)
   keep-flash-write Hash ws t i = placed-has hashSize (b .hashLen) i (length ws) r b _ (Keeps (r, b)) (λ (h : i ≤ b .hashLen) (l : i + length ws ≤ hashSize) x. absurd x) (λ (code : ℕ) h. refl)

@@ -66,14 +66,14 @@ unfolding answered
 read-asked t i offset n s g l ho hn = asked-of t i (askRead (ident i s) offset n) (Read (ident i s) offset n) (read offset n) s g l (read-decoded (ident i s) offset n (live-id i s g l) ho hn) refl
 
 -- the session goes on after a Write
-stored-on : (ws : List ℕ) (t offset : ℕ) (r : Row) (b : Slot) → (stored ws t offset r b .0 ≡ done) × (stored ws t offset r b .1 .0 .used ≡ r .used)
+stored-on : (ws : List ℕ) (t offset : ℕ) (r : Row) (b : Slot) → (stored t offset ws r b .0 ≡ done) × (stored t offset ws r b .1 .0 .used ≡ r .used)
 unfolding stored
 stored-on [] t offset r b = (refl, refl)
 stored-on (w ∷ ws) t offset r b = (refl, refl)
 
-accepts : (t offset : ℕ) (ws : List ℕ) (r : Row) (b : Slot) → writes r ≡ true → offset ≤ b .stagedLen → offset + length ws ≤ slotSize → onStore t (write offset ws) r b ≡ stored ws t offset r b
+accepts : (t offset : ℕ) (ws : List ℕ) (r : Row) (b : Slot) → writes r ≡ true → offset ≤ b .stagedLen → offset + length ws ≤ slotSize → onStore t (write offset ws) r b ≡ stored t offset ws r b
 unfolding onStore writeStore
-accepts t offset ws r b wr h l = ap (λ (y : Bool). writeStore y ws t offset r b) wr ∙ placed-fits slotSize (b .stagedLen) offset (length ws) r b (stored ws t offset r b) h l
+accepts t offset ws r b wr h l = ap (λ (y : Bool). writeStore y t offset ws r b) wr ∙ placed-fits slotSize (b .stagedLen) offset (length ws) r b (stored t offset ws r b) h l
 
 -- what a Write and a Read of the same bytes are answered
 pub record ReadBack (t u i offset : ℕ) (ws : List ℕ) (s : State) : Type 0 where
@@ -118,7 +118,7 @@ module _ (n t u i offset : ℕ) (ws : List ℕ) (s : State) (h : Writes n i s) (
   body-fits : (blob i s < slotCount) × FitsSlot b
   body-fits = body-view-fits (AtSlot (blob i s)) s (h .session .on-store) (g .shape)
 
-  taken : out ≡ stored ws t offset r b
+  taken : out ≡ stored t offset ws r b
   taken = accepts t offset ws r b (h .writing) (let e : seenLength true b ≡ n = sym (ap (λ (y : Bool). seenLength y b) (h .writing)) ∙ h .session .sees in omega arith) fits
 
   taken-done : out .0 ≡ done

@@ -124,7 +124,7 @@ module _ (k : ℕ) (low : k < slotCount) (r : Row) (b : Slot) (fr : FitsRow r) (
   unfolding readStore
   on-read y t i n = touched t
 
-  on-store : (ws : List ℕ) (t i : ℕ) → writingIn (wordOf r) ≡ 1 → i + length ws ≤ slotSize → Fine (stored ws t i r b .1)
+  on-store : (ws : List ℕ) (t i : ℕ) → writingIn (wordOf r) ≡ 1 → i + length ws ≤ slotSize → Fine (stored t i ws r b .1)
   unfolding stored
   on-store [] t i wr h = touched t
   on-store (x ∷ ws) t i wr h = cleaned t 0 d
@@ -135,10 +135,10 @@ module _ (k : ℕ) (low : k < slotCount) (r : Row) (b : Slot) (fr : FitsRow r) (
       d : Slot
       d = withStaged (sets (b .stagedBytes) i (x ∷ ws)) (max (b .stagedLen) (i + length (x ∷ ws))) b
 
-  on-write : (y : Bool) (ws : List ℕ) (t i : ℕ) → writes r ≡ y → Fine (writeStore y ws t i r b .1)
+  on-write : (y : Bool) (ws : List ℕ) (t i : ℕ) → writes r ≡ y → Fine (writeStore y t i ws r b .1)
   unfolding writeStore
   on-write true ws t i q =
-      placed-has slotSize (b .stagedLen) i (length ws) r b (stored ws t i r b) (λ (o : Out Slot). Fine (o .1))
+      placed-has slotSize (b .stagedLen) i (length ws) r b (stored t i ws r b) (λ (o : Out Slot). Fine (o .1))
       (λ (h : i ≤ b .stagedLen) (l : i + length ws ≤ slotSize). on-store ws t i (eqb-true (writingIn (wordOf r)) 1 q) l) (λ (code : ℕ). same)
   on-write false ws t i q = same
 

@@ -9,11 +9,11 @@ use lib.Bits.{bitAnd, bitOr, and-step, or-step, or-zero-r, and-mask}
 use lib.Pow.{pow-pos, pow-lt}
 use Rattle.laws.specs.Lens.{Lens, Indep}
 
-abbrev pub bit : ℕ → ℕ → ℕ
+abbrev pub bit : (i mask : ℕ) → ℕ
 bit zero m = m % 2
 bit (suc i) m = bit i (m / 2)
 
-abbrev pub putBit : ℕ → ℕ → ℕ → ℕ
+abbrev pub putBit : (i v mask : ℕ) → ℕ
 putBit zero b m = m / 2 * 2 + b % 2
 putBit (suc i) b m = putBit i b (m / 2) * 2 + m % 2
 

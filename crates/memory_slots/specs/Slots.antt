@@ -10,7 +10,7 @@ use Rattle.state.specs.State.{Slots, slotOf}
 use Rattle.rules.specs.Store.{withStaged}
 
 -- the store with other staged bytes and lengths
-abbrev pub stagedAs : List ℕ → List ℕ → Slots → Slots
+abbrev pub stagedAs : (staged lens : List ℕ) → Slots → Slots
 stagedAs g l x = record { names = x .names; committed = x .committed; staged = g; slots = x .slots; marks = x .marks; committedLens = x .committedLens; stagedLens = l }
 
 pub staged-put : (k : ℕ) (x : Slots) (g l : List ℕ) (n : ℕ) → g ≡ block slotSize k .put l (x .staged) → slotOf k .put (withStaged l n (slotOf k .get x)) x ≡ stagedAs g (set (x .stagedLens) k n) x

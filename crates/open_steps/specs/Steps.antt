@@ -20,5 +20,5 @@ abbrev pub named : List ℕ → Slot → Slot
 named n b = record { name = padded nameSize n; committedBytes = b .committedBytes; stagedBytes = b .stagedBytes; held = 1; mark = b .mark; committedLen = b .committedLen; stagedLen = b .stagedLen }
 
 -- row r becomes that of a new session; the identifier is answered, and "next" is its successor
-unfoldable pub rowOpened : ℕ → ℕ → ℕ → ℕ → ℕ → State → Reply × State
+unfoldable pub rowOpened : (r blob flags clean t : ℕ) → State → Reply × State
 rowOpened r b flags clean t s = (reply (bytesOf 2 (freshId s)), withNext (after (freshId s)) (inRow r .put (newRow (freshId s) b flags clean t) s))

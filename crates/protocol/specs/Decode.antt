@@ -66,7 +66,7 @@ fields m = drop fieldsAt m
 
 -- ---- the checks
 -- how long the body of each subcommand is (rule 3.1)
-unfoldable pub bodyFits : (sub length : ℕ) → Bool
+unfoldable pub bodyFits : (sub n : ℕ) → Bool
 bodyFits sub n =
     cond (eqb sub countCommand) (eqb n 0)
     (cond (eqb sub enumerateCommand) (eqb n 6)

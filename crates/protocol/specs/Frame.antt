@@ -27,7 +27,7 @@ framed sub done = (success, header sub)
 framed sub (reply f) = (success, header sub ++ (bytesOf crcSize (crc f) ++ f))
 
 -- the answer buffer with the response at its front (rule 19.2); an empty response leaves all of it
-abbrev pub laid : List ℕ → List ℕ → List ℕ
+abbrev pub laid : (response answer : List ℕ) → List ℕ
 laid r a = r ++ drop (length r) a
 
 -- what the answer buffer holds after a reply

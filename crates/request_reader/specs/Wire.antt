@@ -14,13 +14,13 @@ use Rattle.request_reader.specs.declared.WriteFields.{WriteFields}
 use Rattle.request_reader.specs.declared.CommitFields.{CommitFields}
 use Rattle.request_reader.specs.declared.SessionFields.{SessionFields}
 
-abbrev pub byte : List ℕ → ℕ → ℕ
+abbrev pub byte : List ℕ → (at : ℕ) → ℕ
 byte s at = getD s at 0
 
-abbrev pub le16 : List ℕ → ℕ → ℕ
+abbrev pub le16 : List ℕ → (at : ℕ) → ℕ
 le16 s at = little 2 at s
 
-abbrev pub le32 : List ℕ → ℕ → ℕ
+abbrev pub le32 : List ℕ → (at : ℕ) → ℕ
 le32 s at = little 4 at s
 
 -- the same body, n places on

@@ -23,10 +23,10 @@ replyOf (Stat state size) a = reply (statFields state size)
 replyOf (Fields len) a = reply (part fieldsAt len a)
 
 -- the reply and the state: what is said, the control block, then table, names, committed, staged, image, hash, and the answer buffer
-abbrev pub afterSaid : Said → Control → List ℕ → List ℕ → List ℕ → List ℕ → List ℕ → List ℕ → List ℕ → Reply × State
+abbrev pub afterSaid : Said → Control → (table names committed staged image hash answer : List ℕ) → Reply × State
 afterSaid said v t n c g i h a = (replyOf said a, stateOf v t n c g i h)
 
-abbrev pub afterAct : Act → List ℕ → List ℕ → List ℕ → List ℕ → List ℕ → List ℕ → List ℕ → Reply × State
+abbrev pub afterAct : Act → (table names committed staged image hash answer : List ℕ) → Reply × State
 afterAct o t n c g i h a = afterSaid (o .said) (o .control) t n c g i h a
 
 -- the answer buffer once a reply's fields are laid behind the place of header and CRC; all else is kept

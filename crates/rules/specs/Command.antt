@@ -34,12 +34,12 @@ unfoldable pub placed : {B : Type 0} (capacity len offset n : ℕ) → Row → B
 placed capacity len offset n r b accepted = cond (leb offset len) (cond (leb (offset + n) capacity) accepted (refuse tooLong r b)) (refuse outOfRange r b)
 
 -- the region after it (rule 11.3)
-abbrev pub bytesAfter : (written : List ℕ) (offset : ℕ) (region : List ℕ) → List ℕ
-bytesAfter ws offset region = sets region offset ws
+abbrev pub bytesAfter : (offset : ℕ) (written region : List ℕ) → List ℕ
+bytesAfter offset ws region = sets region offset ws
 
 -- the length after it (rule 11.4)
-abbrev pub lengthAfter : (written : List ℕ) (offset len : ℕ) → ℕ
-lengthAfter ws offset len = max len (offset + length ws)
+abbrev pub lengthAfter : (offset : ℕ) (written : List ℕ) (len : ℕ) → ℕ
+lengthAfter offset ws len = max len (offset + length ws)
 
 -- ---- Commit: its length byte tells how many bytes are behind it, and is 0 (rule 12.2)
 abbrev pub commitFits : (len rest : ℕ) → Bool

@@ -185,7 +185,7 @@ empty-frame = refl
 -- ---- Write
 -- a Write of a session that has 4,060 bytes and writes is answered as its checks are
 write-reply : (offset t i : ℕ) (bytes : List ℕ) (s : State) (x : Reply) → Writes 4060 i s → offset < thirtyTwoBits → length bytes ≤ writeMost
-    → placed slotSize 4060 offset (length bytes) (inRow i .get s) (slotAt (blob i s) s) (stored bytes t offset (inRow i .get s) (slotAt (blob i s) s)) .0 ≡ x
+    → placed slotSize 4060 offset (length bytes) (inRow i .get s) (slotAt (blob i s) s) (stored t offset bytes (inRow i .get s) (slotAt (blob i s) s)) .0 ≡ x
     → respond t (askWrite (ident i s) offset bytes) s .code ≡ framed writeCommand x .0
 unfolding answered onStore writeStore
 write-reply offset t i bytes s x h ho hb f =
@@ -197,10 +197,10 @@ write-reply offset t i bytes s x h ho hb f =
     reply-is t m s (Write (ident i s) offset (fieldsAt + 6)) x (h .session .is-sound) (d .0)
     (ap (λ (ws : List ℕ). onSession (Id (ident i s)) t (write offset ws) s .0) (d .1)
     ∙ store-reply 4060 t i (write offset bytes) s (h .session)
-    ∙ ap (λ (y : Bool). writeStore y bytes t offset r b .0) (h .writing)
-    ∙ ap (λ (y : ℕ). placed slotSize y offset (length bytes) r b (stored bytes t offset r b) .0) n ∙ f) .0
+    ∙ ap (λ (y : Bool). writeStore y t offset bytes r b .0) (h .writing)
+    ∙ ap (λ (y : ℕ). placed slotSize y offset (length bytes) r b (stored t offset bytes r b) .0) n ∙ f) .0
 
-stored-done : (ws : List ℕ) (t offset : ℕ) (r : Row) (b : Slot) → stored ws t offset r b .0 ≡ done
+stored-done : (ws : List ℕ) (t offset : ℕ) (r : Row) (b : Slot) → stored t offset ws r b .0 ≡ done
 unfolding stored
 stored-done [] t offset r b = refl
 stored-done (w ∷ ws) t offset r b = refl
@@ -215,7 +215,7 @@ refused-code sub c = refl
 
 module _ (t i : ℕ) (bytes : List ℕ) (s : State) (h : Writes 4060 i s) where
   abbrev kept : ℕ → Out Slot
-  kept offset = stored bytes t offset (inRow i .get s) (slotAt (blob i s) s)
+  kept offset = stored t offset bytes (inRow i .get s) (slotAt (blob i s) s)
 
   at-4044 : length bytes ≡ 52 → respond t (askWrite (ident i s) 4044 bytes) s .code ≡ success
   at-4044 l =

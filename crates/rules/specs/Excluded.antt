@@ -58,7 +58,7 @@ module _ (t u offset : ℕ) (r : Row) (b : Slot) (four : length (r .words) ≡ r
   abbrev pub ReadsBack : List ℕ → Out Slot → Type 0
   ReadsBack ws o = o .0 ≡ done → onStore u (read offset (length ws)) (o .1 .0) (o .1 .1) .0 ≡ reply ws
 
-  stored-shows : (ws : List ℕ) → length ws ≤ readMost → offset + length ws ≤ slotSize → ReadsBack ws (stored ws t offset r b)
+  stored-shows : (ws : List ℕ) → length ws ≤ readMost → offset + length ws ≤ slotSize → ReadsBack ws (stored t offset ws r b)
   unfolding stored onStore readStore
   stored-shows [] few fits d =
       let none-left : readCount 0 offset (seenLength (writes (stamped t r)) b) ≡ 0 = omega arith in
@@ -70,14 +70,14 @@ module _ (t u offset : ℕ) (r : Row) (b : Slot) (four : length (r .words) ≡ r
       ∙ ap reply (part-sets (w ∷ ws) (b .stagedBytes) offset (omega arith))
     where
       later : Slot
-      later = withStaged (bytesAfter (w ∷ ws) offset (b .stagedBytes)) (lengthAfter (w ∷ ws) offset (b .stagedLen)) b
+      later = withStaged (bytesAfter offset (w ∷ ws) (b .stagedBytes)) (lengthAfter offset (w ∷ ws) (b .stagedLen)) b
 
   -- WHAT AN ACCEPTED WRITE STORED IS WHAT A READ OF THE SAME SESSION THEN SHOWS, clean before it or not, whatever was written before (rule 21.4)
   pub read-after-write : (ws : List ℕ) → length ws ≤ readMost → ReadsBack ws (onStore t (write offset ws) r b)
   unfolding onStore writeStore
   read-after-write ws few =
-      subst (λ (y : Bool). ReadsBack ws (writeStore y ws t offset r b)) (sym wr)
-      (placed-has slotSize (b .stagedLen) offset (length ws) r b (stored ws t offset r b) (ReadsBack ws)
+      subst (λ (y : Bool). ReadsBack ws (writeStore y t offset ws r b)) (sym wr)
+      (placed-has slotSize (b .stagedLen) offset (length ws) r b (stored t offset ws r b) (ReadsBack ws)
       (λ (h : offset ≤ b .stagedLen) (l : offset + length ws ≤ slotSize). stored-shows ws few l) (λ (code : ℕ) (e : refused code ≡ done). absurd (done-not-refused code e)))
 
 -- ---- one that invents a count or a size
@@ -196,15 +196,15 @@ module _ (t : ℕ) (r : Row) (four : length (r .words) ≡ rowWords) where
     no-stamp code h = absurd (h code refl)
 
   module _ (b : Slot) where
-    stored-lifts : (ws : List ℕ) (offset : ℕ) → Lifted t r (stored ws t offset r b)
+    stored-lifts : (ws : List ℕ) (offset : ℕ) → Lifted t r (stored t offset ws r b)
     unfolding stored
     stored-lifts [] offset h = lifted
     stored-lifts (w ∷ ws) offset h = lifted-with _
 
-    write-lifts : (y : Bool) (ws : List ℕ) (offset : ℕ) → Lifted t r (writeStore y ws t offset r b)
+    write-lifts : (y : Bool) (ws : List ℕ) (offset : ℕ) → Lifted t r (writeStore y t offset ws r b)
     unfolding writeStore
     write-lifts true ws offset =
-        placed-has slotSize (b .stagedLen) offset (length ws) r b (stored ws t offset r b) (Lifted t r) (λ (h : offset ≤ b .stagedLen) (l : offset + length ws ≤ slotSize). stored-lifts ws offset) (no-stamp b)
+        placed-has slotSize (b .stagedLen) offset (length ws) r b (stored t offset ws r b) (Lifted t r) (λ (h : offset ≤ b .stagedLen) (l : offset + length ws ≤ slotSize). stored-lifts ws offset) (no-stamp b)
     write-lifts false ws offset = no-stamp b notSupported
 
     writing-lifts : (y : Bool) → Lifted t r (commitWriting y t r b)
@@ -228,7 +228,7 @@ module _ (t : ℕ) (r : Row) (four : length (r .words) ≡ rowWords) where
     store-lifts (endJob good) l = absurd l
 
   module _ (b : FlashBody) where
-    flash-write-lifts : (k : FlashKind) (ws : List ℕ) (offset : ℕ) → Lifted t r (writeFlash k ws t offset r b)
+    flash-write-lifts : (k : FlashKind) (ws : List ℕ) (offset : ℕ) → Lifted t r (writeFlash k t offset ws r b)
     unfolding writeFlash
     flash-write-lifts Image ws offset = placed-has imageSize (b .imageLen) offset (length ws) r b _ (Lifted t r) (λ (h : offset ≤ b .imageLen) (l : offset + length ws ≤ imageSize) x. lifted) (no-stamp b)
     flash-write-lifts Hash ws offset = placed-has hashSize (b .hashLen) offset (length ws) r b _ (Lifted t r) (λ (h : offset ≤ b .hashLen) (l : offset + length ws ≤ hashSize) x. lifted) (no-stamp b)

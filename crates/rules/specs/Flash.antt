@@ -25,14 +25,14 @@ abbrev pub withHash : List ℕ → (len : ℕ) → FlashBody → FlashBody
 withHash l n b = record { phase = b .phase; image = b .image; hash = l; imageLen = b .imageLen; hashLen = n }
 
 -- ---- Write: into the image or the hash; the others do not take it (D5) (rules 11.1 and 11.2)
-unfoldable pub writeFlash : FlashKind → List ℕ → (t offset : ℕ) → Row → FlashBody → Out FlashBody
-writeFlash Image ws t offset r b =
-    placed imageSize (b .imageLen) offset (length ws) r b (done, (stamped t r, withImage (bytesAfter ws offset (b .image)) (lengthAfter ws offset (b .imageLen)) b))
-writeFlash Hash ws t offset r b =
-    placed hashSize (b .hashLen) offset (length ws) r b (done, (stamped t r, withHash (bytesAfter ws offset (b .hash)) (lengthAfter ws offset (b .hashLen)) b))
-writeFlash Verify ws t offset r b = refuse notSupported r b
-writeFlash Update ws t offset r b = refuse notSupported r b
-writeFlash Cleanup ws t offset r b = refuse notSupported r b
+unfoldable pub writeFlash : FlashKind → (t offset : ℕ) → List ℕ → Row → FlashBody → Out FlashBody
+writeFlash Image t offset ws r b =
+    placed imageSize (b .imageLen) offset (length ws) r b (done, (stamped t r, withImage (bytesAfter offset ws (b .image)) (lengthAfter offset ws (b .imageLen)) b))
+writeFlash Hash t offset ws r b =
+    placed hashSize (b .hashLen) offset (length ws) r b (done, (stamped t r, withHash (bytesAfter offset ws (b .hash)) (lengthAfter offset ws (b .hashLen)) b))
+writeFlash Verify t offset ws r b = refuse notSupported r b
+writeFlash Update t offset ws r b = refuse notSupported r b
+writeFlash Cleanup t offset ws r b = refuse notSupported r b
 
 -- ---- Commit
 -- a job starts where none was tried or the last one failed (rules 12.4 and 12.5)
@@ -101,7 +101,7 @@ jobEnds false good r b = refuse notSupported r b
 -- ---- EACH COMMAND on the flash session; Read (rule 10.1) and WriteMeta (rule 16.1) are not supported
 unfoldable pub onFlash : FlashKind → (t : ℕ) → Command → Row → FlashBody → Out FlashBody
 onFlash k t (read offset n) r b = refuse notSupported r b
-onFlash k t (write offset ws) r b = writeFlash k ws t offset r b
+onFlash k t (write offset ws) r b = writeFlash k t offset ws r b
 onFlash k t (commit len rest) r b = commitFlash (commitFits len rest) k t r b
 onFlash k t stat r b = (reply (statFlash k r b), (stamped t r, b))
 onFlash k t close r b = closeFlash (eqb (statusOf r) running) k r b

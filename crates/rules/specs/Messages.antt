@@ -24,11 +24,11 @@ abbrev pub askOpen : ℕ → List ℕ → List ℕ
 askOpen flags name = sent openCommand (bytesOf 2 flags ++ (name ++ (0 ∷ [])))
 
 -- Read
-abbrev pub askRead : ℕ → ℕ → ℕ → List ℕ
+abbrev pub askRead : (session offset count : ℕ) → List ℕ
 askRead session offset count = sent readCommand (bytesOf 2 session ++ (bytesOf 4 offset ++ bytesOf 4 count))
 
 -- Write
-abbrev pub askWrite : ℕ → ℕ → List ℕ → List ℕ
+abbrev pub askWrite : (session offset : ℕ) → List ℕ → List ℕ
 askWrite session offset bytes = sent writeCommand (bytesOf 2 session ++ (bytesOf 4 offset ++ bytes))
 
 -- Commit without bytes

@@ -33,15 +33,15 @@ abbrev pub withStaged : List ℕ → (len : ℕ) → Slot → Slot
 withStaged l n b = record { name = b .name; committedBytes = b .committedBytes; stagedBytes = l; held = b .held; mark = b .mark; committedLen = b .committedLen; stagedLen = n }
 
 -- the bytes stored: no bytes keep clean, one or more clear it (rule 11.5)
-unfoldable pub stored : List ℕ → (t offset : ℕ) → Row → Slot → Out Slot
-stored [] t offset r b = (done, (stamped t r, b))
-stored (w ∷ ws) t offset r b =
-    (done, (stamped t (withClean 0 r), withStaged (bytesAfter (w ∷ ws) offset (b .stagedBytes)) (lengthAfter (w ∷ ws) offset (b .stagedLen)) b))
+unfoldable pub stored : (t offset : ℕ) → List ℕ → Row → Slot → Out Slot
+stored t offset [] r b = (done, (stamped t r, b))
+stored t offset (w ∷ ws) r b =
+    (done, (stamped t (withClean 0 r), withStaged (bytesAfter offset (w ∷ ws) (b .stagedBytes)) (lengthAfter offset (w ∷ ws) (b .stagedLen)) b))
 
 -- only a session that writes may (D5), into its staged region (rules 11.1 and 11.2)
-unfoldable pub writeStore : (writing : Bool) → List ℕ → (t offset : ℕ) → Row → Slot → Out Slot
-writeStore true ws t offset r b = placed slotSize (b .stagedLen) offset (length ws) r b (stored ws t offset r b)
-writeStore false ws t offset r b = refuse notSupported r b
+unfoldable pub writeStore : (writing : Bool) (t offset : ℕ) → List ℕ → Row → Slot → Out Slot
+writeStore true t offset ws r b = placed slotSize (b .stagedLen) offset (length ws) r b (stored t offset ws r b)
+writeStore false t offset ws r b = refuse notSupported r b
 
 -- ---- Commit
 -- staged region and length are committed too, and the slot is marked (rule 12.3)
@@ -76,7 +76,7 @@ statStore r b = statFields (stateBits (wordOf r)) (seenLength (writes r) b)
 -- ---- EACH COMMAND on a store session; WriteMeta is not supported (rule 16.1), and no job ends here
 unfoldable pub onStore : (t : ℕ) → Command → Row → Slot → Out Slot
 onStore t (read offset n) r b = readStore (writes r) t offset n r b
-onStore t (write offset ws) r b = writeStore (writes r) ws t offset r b
+onStore t (write offset ws) r b = writeStore (writes r) t offset ws r b
 onStore t (commit len rest) r b = commitStore (commitFits len rest) t r b
 onStore t stat r b = (reply (statStore r b), (stamped t r, b))
 onStore t close r b = (done, (freeRow, closedSlot (writes r) b))

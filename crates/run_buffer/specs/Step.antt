@@ -21,8 +21,8 @@ abbrev pub stepped : Served → List ℕ → ℕ → Stepped
 stepped v t at = record { end = at + length (lineAfter v); state = v .state; answer = v .answer; text = sets t at (lineAfter v) }
 
 -- a step and a run of the code, with table, names, committed, staged, image, hash, answer buffer and text as they are after it
-abbrev pub steppedOf : Answered → List ℕ → List ℕ → List ℕ → List ℕ → List ℕ → List ℕ → List ℕ → List ℕ → Stepped
+abbrev pub steppedOf : Answered → (table names committed staged image hash answer text : List ℕ) → Stepped
 steppedOf r t n c g i h a x = record { end = r .end; state = stateOf (r .control) t n c g i h; answer = a; text = x }
 
-abbrev pub writtenOf : Ran → List ℕ → List ℕ → List ℕ → List ℕ → List ℕ → List ℕ → List ℕ → List ℕ → Written
+abbrev pub writtenOf : Ran → (table names committed staged image hash answer text : List ℕ) → Written
 writtenOf r t n c g i h a x = record { len = r .len; used = r .used; state = stateOf (r .control) t n c g i h; answer = a; text = x }

@@ -61,7 +61,7 @@ abbrev pub stopped : State → List ℕ → Ran
 stopped s a = record { text = []; used = 0; state = s; answer = a }
 
 -- a line, and the n bytes of its record, before what follows
-abbrev pub after : List ℕ → ℕ → Ran → Ran
+abbrev pub after : (line : List ℕ) (n : ℕ) → Ran → Ran
 after line n r = record { text = line ++ r .text; used = n + r .used; state = r .state; answer = r .answer }
 
 -- the line of what the library's function left
@@ -89,7 +89,7 @@ abbrev pub writtenTo : List ℕ → Ran → Written
 writtenTo t r = record { len = length (r .text); used = r .used; state = r .state; answer = r .answer; text = laid (r .text) t }
 
 -- THE RUN: the buffer b of records, the state, the answer buffer, and the text buffer t
-abbrev pub ran : List ℕ → State → List ℕ → List ℕ → Written
+abbrev pub ran : (records : List ℕ) → State → (answer text : List ℕ) → Written
 ran b s a t = writtenTo t (runOf (length t) (requests b) s a)
 
 -- ---- the program over the reads of a file

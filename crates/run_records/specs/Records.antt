@@ -37,7 +37,7 @@ abbrev pub isWhole : List ℕ → Bool
 isWhole b = leb (sizeOf b) (length b)
 
 -- the record from the place `at` of a buffer on: its clock, where its message starts, how long the message is, where the next record starts
-unfoldable pub recordAt : List ℕ → ℕ → Record
+unfoldable pub recordAt : List ℕ → (at : ℕ) → Record
 recordAt s at =
     cond (leb (length s) at) End
     (cond (isWhole (drop at s)) (Whole (clockOf (drop at s)) (at + prefixSize) (lengthOf (drop at s)) (at + sizeOf (drop at s))) Cut)

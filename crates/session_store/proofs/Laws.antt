@@ -39,8 +39,8 @@ writtenRow ws e = cond (eqb (length ws) 0) e (cleanSet e 0)
 -- ---- on the part
 -- an accepted Write, empty or not
 stored-is : (ws : List ℕ) (t offset : ℕ) (e : Entry) (used : ℕ) (b : Slot) → offset ≤ b .stagedLen
-    → stored ws t offset (record { words = wordsOf e; used = used }) b
-    ≡ (done, (record { words = wordsOf (lifted (writtenRow ws e) t); used = used }, withStaged (bytesAfter ws offset (b .stagedBytes)) (lengthAfter ws offset (b .stagedLen)) b))
+    → stored t offset ws (record { words = wordsOf e; used = used }) b
+    ≡ (done, (record { words = wordsOf (lifted (writtenRow ws e) t); used = used }, withStaged (bytesAfter offset ws (b .stagedBytes)) (lengthAfter offset ws (b .stagedLen)) b))
 unfolding stored
 stored-is [] t offset e used b h =
     let q : b .stagedLen ≡ max (b .stagedLen) (offset + 0) = omega arith in
@@ -54,7 +54,7 @@ module _ (t : ℕ) (x : Row) (b : Slot) where
   unfolding onStore writeStore
   write-reader offset ws p = rw p
 
-  write-writer : (offset : ℕ) (ws : List ℕ) → writes x ≡ true → onStore t (write offset ws) x b ≡ placed slotSize (b .stagedLen) offset (length ws) x b (stored ws t offset x b)
+  write-writer : (offset : ℕ) (ws : List ℕ) → writes x ≡ true → onStore t (write offset ws) x b ≡ placed slotSize (b .stagedLen) offset (length ws) x b (stored t offset ws x b)
   unfolding onStore writeStore
   write-writer offset ws p = rw p
 
@@ -118,8 +118,8 @@ module _ (s : State) (r : ℕ) (e : Entry) (words : block rowWords r .get (s .se
     left-is size p =
         let x : Row = rowRead r e s in
         let b : Slot = slotAt k s in
-        written-has slotSize (b .stagedLen) offset (length ws) x b (stored ws t offset x b) (λ (y : Written) (o : Out Slot). onStore t (write offset ws) x b ≡ o → Left y ≡ onRow r t (write offset ws) s)
-        (λ (h : offset ≤ b .stagedLen) (l : offset + length ws ≤ slotSize) (u : onStore t (write offset ws) x b ≡ stored ws t offset x b).
+        written-has slotSize (b .stagedLen) offset (length ws) x b (stored t offset ws x b) (λ (y : Written) (o : Out Slot). onStore t (write offset ws) x b ≡ o → Left y ≡ onRow r t (write offset ws) s)
+        (λ (h : offset ≤ b .stagedLen) (l : offset + length ws ≤ slotSize) (u : onStore t (write offset ws) x b ≡ stored t offset ws x b).
         part-does (write offset ws) done (lifted (writtenRow ws e) t) _ _ _ (u ∙ stored-is ws t offset e (bit r (s .sessions .rows)) b h) refl
         (staged-put k (s .store) (sets (s .store .staged) (k * 4096 + offset) ws) _ _ (region-written k offset ws (s .store .staged) (on .slot-low) size l)))
         (λ (code : ℕ) (u : onStore t (write offset ws) x b ≡ refuse code x b).
@@ -152,13 +152,22 @@ module _ (s : State) (r : ℕ) (e : Entry) (words : block rowWords r .get (s .se
         → (
           done,
           with s (record { table = table; rows = s .sessions .rows })
-              (record { names = s .store .names; committed = c; staged = s .store .staged; slots = s .store .slots; marks = marks; committedLens = set (s .store .committedLens) k (getD (s .store .stagedLens) k 0); stagedLens = s .store .stagedLens })
+              (record {
+                names = s .store .names;
+                committed = c;
+                staged = s .store .staged;
+                slots = s .store .slots;
+                marks = marks;
+                committedLens = set (s .store .committedLens) k (getD (s .store .stagedLens) k 0);
+                stagedLens = s .store .stagedLens;
+              })
               (s .flashGroup),
         )
         ≡ onRow r t (commit len rest) s
     commit-is table c marks p q u1 u2 u3 =
         part-does (commit len rest) done (lifted (cleanSet e 1) t) (committedSlot (slotAt k s)) table _ (commit-writer t (rowRead r e s) (slotAt k s) len rest p q) u1
-        (slot-put k (committedSlot (slotAt k s)) (s .store) _ (block-steady 0 nameSize k (s .store .names)) (sym u2) (block-steady 0 slotSize k (s .store .staged)) (put-bit k (s .store .slots)) (sym u3) refl (set-getD (s .store .stagedLens) k 0))
+        (slot-put k (committedSlot (slotAt k s)) (s .store) _ (block-steady 0 nameSize k (s .store .names)) (sym u2) (block-steady 0 slotSize k (s .store .staged)) (put-bit k (s .store .slots))
+        (sym u3) refl (set-getD (s .store .stagedLens) k 0))
 
   -- Close
   module _ (table : List ℕ) (rows : ℕ) (u1 : table ≡ block rowWords r .put (freeRow .words) (s .sessions .table)) (u2 : rows ≡ putBit r 0 (s .sessions .rows)) where
@@ -180,7 +189,10 @@ module _ (s : State) (r : ℕ) (e : Entry) (words : block rowWords r .get (s .se
 
   -- Read
   read-does : (offset count : ℕ) (table : List ℕ) → table ≡ block rowWords r .put (wordsOf (lifted e t)) (s .sessions .table)
-      → (reply (part offset (readCount count offset (seenLength (writes (rowRead r e s)) (slotAt k s))) (seenBytes (writes (rowRead r e s)) (slotAt k s))), with s (record { table = table; rows = s .sessions .rows }) (s .store) (s .flashGroup))
+      → (
+        reply (part offset (readCount count offset (seenLength (writes (rowRead r e s)) (slotAt k s))) (seenBytes (writes (rowRead r e s)) (slotAt k s))),
+        with s (record { table = table; rows = s .sessions .rows }) (s .store) (s .flashGroup),
+      )
       ≡ onRow r t (read offset count) s
   unfolding onStore readStore
   read-does offset count table p = part-does (read offset count) _ (lifted e t) (slotAt k s) table (s .store) refl p (slotOf-steady k (s .store))

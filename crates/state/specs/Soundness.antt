@@ -90,16 +90,16 @@ unfoldable pub rowOk : State → ℕ → Bool
 rowOk s r = cond (inUse r s) (usedRow (inRow r .get s) s) (zeros (inRow r .get s .words))
 
 -- two rows have one identifier, or one blob, or are both flash rows (rule 6.9)
-unfoldable pub rowsClash : State → ℕ → ℕ → Bool
+unfoldable pub rowsClash : State → (i j : ℕ) → Bool
 rowsClash s i j = eqb (ident i s) (ident j s) || (eqb (blob i s) (blob j s) || (leb slotCount (blob i s) && leb slotCount (blob j s)))
 
 -- no two used rows do (rule 6.9)
-unfoldable pub rowsApart : State → ℕ → ℕ → Bool
+unfoldable pub rowsApart : State → (i j : ℕ) → Bool
 rowsApart s i j = not (inUse i s && (inUse j s && rowsClash s i j))
 
 -- ---- slots
 -- row r writes slot k
-unfoldable pub writesSlot : State → (AtSlot row : ℕ) → Bool
+unfoldable pub writesSlot : State → (k r : ℕ) → Bool
 writesSlot s k r = inUse r s && (eqb (blob r s) k && writes (inRow r .get s))
 
 -- some row writes slot k (rule 6.12)
@@ -121,7 +121,7 @@ unfoldable pub slotOk : State → ℕ → Bool
 slotOk s k = cond (eqb (slotAt k s .held) 1) (usedSlot (slotAt k s) (hasWriter s k)) (unusedSlot (slotAt k s))
 
 -- no two used slots have one name (rule 6.13)
-unfoldable pub namesApart : State → ℕ → ℕ → Bool
+unfoldable pub namesApart : State → (k l : ℕ) → Bool
 namesApart s k l = not (eqb (slotAt k s .held) 1 && (eqb (slotAt l s .held) 1 && same (slotAt k s .name) (slotAt l s .name)))
 
 -- THE TEST: all of it, and nothing else (rule 6.14)

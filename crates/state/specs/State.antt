@@ -45,11 +45,11 @@ pub record State : Type 0 where
   pub lastSweep : ℕ
 
 -- the store that the values by value and the lent lists make: names, committed, staged
-abbrev pub storeOf : Control → List ℕ → List ℕ → List ℕ → Slots
+abbrev pub storeOf : Control → (names committed staged : List ℕ) → Slots
 storeOf v n c g = record { names = n; committed = c; staged = g; slots = v .slots; marks = v .marks; committedLens = v .«committed_len»; stagedLens = v .«staged_len» }
 
 -- the state that the control block v and the lent buffers make: table, names, committed, staged, image, hash (rules 5.1 and 5.2)
-abbrev pub stateOf : Control → List ℕ → List ℕ → List ℕ → List ℕ → List ℕ → List ℕ → State
+abbrev pub stateOf : Control → (table names committed staged image hash : List ℕ) → State
 stateOf v t n c g i h = record {
   sessions = record { table = t; rows = v .rows };
   store = storeOf v n c g;

@@ -25,14 +25,14 @@ pub const IMAGE_SIZE: usize = 16384;
 pub const HASH_SIZE: usize = 64;
 
 // Masks, identifiers and the next identifier are below this.
-pub const SIXTEEN_BITS: u32 = 65536;
+pub const SIXTEEN_BITS: u32 = 0x10000;
 
 // Where the job status starts in a row's third word, where the clean mark, and what the word is below.
-pub const STATUS_UNIT: u32 = 65536;
+pub const STATUS_UNIT: u32 = 0x10000;
 
-pub const CLEAN_UNIT: u32 = 262144;
+pub const CLEAN_UNIT: u32 = 0x40000;
 
-pub const WORD_LIMIT: u32 = 524288;
+pub const WORD_LIMIT: u32 = 0x80000;
 
 // The status of a row's job.
 pub struct Status {}
