@@ -15,7 +15,6 @@ use memory_slots::free_slot;
 use protocol::Blob;
 use protocol::Code;
 use response_types::Act;
-use response_types::Said;
 use state::Control;
 use state::mask::Found;
 use state::row::Wanted;
@@ -35,22 +34,13 @@ fn delete_store(
     ensures { λ o. ⌜ ((image hash answer : List ℕ) → afterAct o (now (table .entry)) (now (names .exit)) (now (committed .exit)) (now (staged .exit)) image hash answer ≡ deleteBlob (Store start len) (now (message .entry)) (stateOf control (now (table .entry)) (now (names .entry)) (now (committed .entry)) (now (staged .entry)) image hash)) ⌝ }
 {
     let Found::At(k) = find_name(names, control.slots, message, start, len) else {
-        return Act {
-            said: Said::Refused(Code::NOT_FOUND),
-            control,
-        };
+        return Act::refused(Code::NOT_FOUND, control);
     };
     let Found::Nothing = find_row(table, control.rows, Wanted::OnBlob(k as u32)) else {
-        return Act {
-            said: Said::Refused(Code::BUSY),
-            control,
-        };
+        return Act::refused(Code::BUSY, control);
     };
     let freed = free_slot(k, control, names, committed, staged);
-    Act {
-        said: Said::Done,
-        control: freed,
-    }
+    Act::done(freed)
 }
 
 // Delete by what the name names (rule 14.1). A name that is not held has no session, so the slot is looked up before the session.
@@ -77,17 +67,8 @@ pub fn delete(
             committed,
             staged,
         ),
-        Blob::Flash(_) => Act {
-            said: Said::Refused(Code::NOT_SUPPORTED),
-            control,
-        },
-        Blob::Base => Act {
-            said: Said::Refused(Code::NOT_SUPPORTED),
-            control,
-        },
-        Blob::Unknown => Act {
-            said: Said::Refused(Code::NOT_FOUND),
-            control,
-        },
+        Blob::Flash(_) => Act::refused(Code::NOT_SUPPORTED, control),
+        Blob::Base => Act::refused(Code::NOT_SUPPORTED, control),
+        Blob::Unknown => Act::refused(Code::NOT_FOUND, control),
     }
 }

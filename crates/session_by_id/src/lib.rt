@@ -90,10 +90,7 @@ pub fn write(
                 }
             }
         }
-        Found::Nothing => Act {
-            said: Said::Refused(Code::NOT_FOUND),
-            control,
-        },
+        Found::Nothing => Act::refused(Code::NOT_FOUND, control),
     }
 }
 
@@ -138,10 +135,7 @@ pub fn commit(
                 }
             }
         }
-        Found::Nothing => Act {
-            said: Said::Refused(Code::NOT_FOUND),
-            control,
-        },
+        Found::Nothing => Act::refused(Code::NOT_FOUND, control),
     }
 }
 
@@ -178,10 +172,7 @@ pub fn close(
                 Place::AtFlash => session_flash::close(control, table, image, hash, r, e),
             }
         }
-        Found::Nothing => Act {
-            said: Said::Refused(Code::NOT_FOUND),
-            control,
-        },
+        Found::Nothing => Act::refused(Code::NOT_FOUND, control),
     }
 }
 

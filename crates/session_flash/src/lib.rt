@@ -93,18 +93,9 @@ pub fn write(
                 control: next,
             }
         }
-        FlashKind::Verify => Act {
-            said: Said::Refused(Code::NOT_SUPPORTED),
-            control,
-        },
-        FlashKind::Update => Act {
-            said: Said::Refused(Code::NOT_SUPPORTED),
-            control,
-        },
-        FlashKind::Cleanup => Act {
-            said: Said::Refused(Code::NOT_SUPPORTED),
-            control,
-        },
+        FlashKind::Verify => Act::refused(Code::NOT_SUPPORTED, control),
+        FlashKind::Update => Act::refused(Code::NOT_SUPPORTED, control),
+        FlashKind::Cleanup => Act::refused(Code::NOT_SUPPORTED, control),
     }
 }
 
@@ -159,43 +150,25 @@ pub fn commit(
     ensures { λ o. ⌜ ((names committed staged answer : List ℕ) → afterAct o (now (table .exit)) names committed staged (now (image .exit)) (now (hash .exit)) answer ≡ onRow r clock (commit len rest) (stateOf control (now (table .entry)) names committed staged (now (image .entry)) (now (hash .entry)))) ⌝ }
 {
     if !commit_fits(len, rest) {
-        return Act {
-            said: Said::Refused(Code::INVALID),
-            control,
-        };
+        return Act::refused(Code::INVALID, control);
     }
     let kind = kind_of(e.blob);
     let phase = control.phase;
     match kind {
-        FlashKind::Image => Act {
-            said: Said::Refused(Code::NOT_SUPPORTED),
-            control,
-        },
-        FlashKind::Hash => Act {
-            said: Said::Refused(Code::NOT_SUPPORTED),
-            control,
-        },
+        FlashKind::Image => Act::refused(Code::NOT_SUPPORTED, control),
+        FlashKind::Hash => Act::refused(Code::NOT_SUPPORTED, control),
         FlashKind::Verify => {
             write_row(table, r, started(e).lifted(clock));
-            Act {
-                said: Said::Done,
-                control: with_phase(control, phase_if(startable(e), Phase::Uploading, phase)),
-            }
+            Act::done(with_phase(control, phase_if(startable(e), Phase::Uploading, phase)))
         }
         FlashKind::Update => {
             write_row(table, r, started(e).lifted(clock));
-            Act {
-                said: Said::Done,
-                control,
-            }
+            Act::done(control)
         }
         FlashKind::Cleanup => {
             clear_flash(image, hash);
             write_row(table, r, e.with_status(Status::SUCCEEDED).lifted(clock));
-            Act {
-                said: Said::Done,
-                control: emptied(control),
-            }
+            Act::done(emptied(control))
         }
     }
 }
@@ -241,10 +214,7 @@ pub fn close(
 {
     let status = e.status();
     if status == Status::RUNNING {
-        return Act {
-            said: Said::Refused(Code::BUSY),
-            control,
-        };
+        return Act::refused(Code::BUSY, control);
     }
     clear_row(table, r);
     let mut next = control;
@@ -252,16 +222,10 @@ pub fn close(
     let kind = kind_of(e.blob);
     if is_updated(kind, status) {
         clear_flash(image, hash);
-        return Act {
-            said: Said::Done,
-            control: emptied(next),
-        };
+        return Act::done(emptied(next));
     }
     let phase = control.phase;
-    Act {
-        said: Said::Done,
-        control: with_phase(next, closed_phase(kind, status, phase)),
-    }
+    Act::done(with_phase(next, closed_phase(kind, status, phase)))
 }
 
 // The length of what a flash name holds.

@@ -62,10 +62,7 @@ pub fn write(
     ensures { λ o. ⌜ ((names committed image hash answer : List ℕ) → afterAct o (now (table .exit)) names committed (now (staged .exit)) image hash answer ≡ onRow r clock (write offset (now (bytes .entry))) (stateOf control (now (table .entry)) names committed (now (staged .entry)) image hash)) ⌝ }
 {
     if !e.writes() {
-        return Act {
-            said: Said::Refused(Code::NOT_SUPPORTED),
-            control,
-        };
+        return Act::refused(Code::NOT_SUPPORTED, control);
     }
     let len = control.staged_len[k];
     let written = write_region(staged, k * SLOT_SIZE, SLOT_SIZE, len, offset, bytes);
@@ -95,26 +92,17 @@ pub fn commit(
     ensures { λ o. ⌜ ((names image hash answer : List ℕ) → afterAct o (now (table .exit)) names (now (committed .exit)) (now (staged .entry)) image hash answer ≡ onRow r clock (commit len rest) (stateOf control (now (table .entry)) names (now (committed .entry)) (now (staged .entry)) image hash)) ⌝ }
 {
     if !commit_fits(len, rest) {
-        return Act {
-            said: Said::Refused(Code::INVALID),
-            control,
-        };
+        return Act::refused(Code::INVALID, control);
     }
     if !e.writes() {
-        return Act {
-            said: Said::Refused(Code::NOT_SUPPORTED),
-            control,
-        };
+        return Act::refused(Code::NOT_SUPPORTED, control);
     }
     copy_region(committed, staged, k);
     write_row(table, r, e.with_clean(1).lifted(clock));
     let mut next = control;
     next.committed_len[k] = control.staged_len[k];
     next.marks = set_bit(control.marks, k);
-    Act {
-        said: Said::Done,
-        control: next,
-    }
+    Act::done(next)
 }
 
 // The row is freed; a writing session's staged region is zeroed, and its slot freed if it was never committed.
@@ -135,24 +123,15 @@ pub fn close(
     let mut next = control;
     next.rows = clear_bit(control.rows, r);
     if !e.writes() {
-        return Act {
-            said: Said::Done,
-            control: next,
-        };
+        return Act::done(next);
     }
     if !has(control.marks, k) {
         let freed = free_slot(k, next, names, committed, staged);
-        return Act {
-            said: Said::Done,
-            control: freed,
-        };
+        return Act::done(freed);
     }
     clear_region(staged, k);
     next.staged_len[k] = 0;
-    Act {
-        said: Said::Done,
-        control: next,
-    }
+    Act::done(next)
 }
 
 // How many bytes a Read shows.

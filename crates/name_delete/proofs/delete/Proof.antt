@@ -8,6 +8,7 @@ use Rattle.protocol.specs.declared.Blob.{Blob}
 use Rattle.state.specs.State.{State, stateOf}
 use borrow.Author.Needs.{needs}
 use Rattle.name_delete.proofs.delete.Statement.{statement}
+use Rattle.response_types.specs.Laws.{refused-leaves}
 use Rattle.rules.specs.Named.{deleteBlob}
 use Rattle.name_delete.proofs.delete.Tie as tie
 
@@ -19,14 +20,14 @@ whole c image hash = let a = c .args in stateOf (a .control) (a .table .now) (a 
 abbrev entry : tie.After-blob → tie.Start
 entry c = c .before .before .before .before .before .before .before
 
-abbrev entry₂ : tie.After-enum-told → tie.Start
-entry₂ c = c .before .before .before .before .before .before .before
+abbrev entry₂ : tie.After-refused → tie.Start
+entry₂ c = c .before .before .before .before .before .before .before .before
 
-abbrev entry₃ : tie.After-enum-told2 → tie.Start
-entry₃ c = c .before .before .before .before .before .before .before
+abbrev entry₃ : tie.After-refused2 → tie.Start
+entry₃ c = c .before .before .before .before .before .before .before .before
 
-abbrev entry₄ : tie.After-enum-told3 → tie.Start
-entry₄ c = c .before .before .before .before .before .before .before
+abbrev entry₄ : tie.After-refused3 → tie.Start
+entry₄ c = c .before .before .before .before .before .before .before .before
 
 abbrev at-blob : tie.After-delete-store-arg3 → tie.After-blob
 at-blob c = c .before .before .before .before
@@ -46,11 +47,20 @@ delete-store-requires c κs = (subst (BlobInside (entry (at-blob c) .args .messa
 enum-told : tie.Need-enum-told
 enum-told c = search needs
 
+refused-requires : tie.Need-refused-requires
+refused-requires c κs = search needs
+
 enum-told-2 : tie.Need-enum-told-2
 enum-told-2 c = search needs
 
+refused-requires-2 : tie.Need-refused-requires-2
+refused-requires-2 c κs = search needs
+
 enum-told-3 : tie.Need-enum-told-3
 enum-told-3 c = search needs
+
+refused-requires-3 : tie.Need-refused-requires-3
+refused-requires-3 c κs = search needs
 
 same-length : tie.Need-same-length
 same-length c = search needs
@@ -71,17 +81,23 @@ returns c =
 returns-2 : tie.Need-returns-2
 unfolding deleteBlob
 returns-2 c =
-    λ i h _. let start = entry₂ c in let a = start .args in ap (λ (b : Blob). deleteBlob b (a .message .now) (whole start i h)) (sym (c .enum-told .given .1))
+    λ i h x.
+    let start = entry₂ c in
+    refused-leaves x (c .refused .ensures) (ap (λ (b : Blob). deleteBlob b (start .args .message .now) (whole start i h)) (sym (c .before .enum-told .given .1)))
 
 returns-3 : tie.Need-returns-3
 unfolding deleteBlob
 returns-3 c =
-    λ i h _. let start = entry₃ c in let a = start .args in ap (λ (b : Blob). deleteBlob b (a .message .now) (whole start i h)) (sym (c .enum-told2 .given .1))
+    λ i h x.
+    let start = entry₃ c in
+    refused-leaves x (c .refused2 .ensures) (ap (λ (b : Blob). deleteBlob b (start .args .message .now) (whole start i h)) (sym (c .before .enum-told2 .given .1)))
 
 returns-4 : tie.Need-returns-4
 unfolding deleteBlob
 returns-4 c =
-    λ i h _. let start = entry₄ c in let a = start .args in ap (λ (b : Blob). deleteBlob b (a .message .now) (whole start i h)) (sym (c .enum-told3 .given .1))
+    λ i h x.
+    let start = entry₄ c in
+    refused-leaves x (c .refused3 .ensures) (ap (λ (b : Blob). deleteBlob b (start .args .message .now) (whole start i h)) (sym (c .before .enum-told3 .given .1)))
 
 pub delete-spec : {M : Type 1} → statement M
 delete-spec =
@@ -90,8 +106,11 @@ delete-spec =
     enum-known-blob
     delete-store-requires
     enum-told
+    refused-requires
     enum-told-2
+    refused-requires-2
     enum-told-3
+    refused-requires-3
     same-length
     same-length-2
     same-length-3

@@ -4,6 +4,7 @@ use mathlib.Core.List.{List}
 use Prim.Native.Nat.{ℕ}
 use Rattle.state.specs.State.{State, stateOf}
 use Rattle.rules.specs.Command.{close}
+use Rattle.response_types.specs.Laws.{refused-leaves}
 use Rattle.session_by_id.proofs.Laws.{row-is, of-row, of-none}
 use Rattle.lookup.specs.Search.{row-low}
 use Rattle.session_row.specs.Lent.{on-slot}
@@ -95,8 +96,11 @@ at-found₄ c =
 abbrev at-close2 : tie.After-slice-known13 → tie.After-close2
 at-close2 c = c .before .before .before .before .before .before
 
-abbrev entry₆ : tie.After-enum-told2 → tie.Start
-entry₆ c = c .before .before .before .before .before .before .before .before .before .before
+abbrev entry₆ : tie.After-refused → tie.Start
+entry₆ c = c .before .before .before .before .before .before .before .before .before .before .before
+
+abbrev at-find-row₆ : tie.After-refused → tie.After-find-row
+at-find-row₆ c = c .before .before .before
 
 abbrev whole : tie.Start → State
 whole s = stateOf (s .args .control) (s .args .table .now) (s .args .names .now) (s .args .committed .now) (s .args .staged .now) (s .args .image .now) (s .args .hash .now)
@@ -133,6 +137,9 @@ close-requires-2 c κs = (
 
 enum-told-2 : tie.Need-enum-told-2
 enum-told-2 c = search needs
+
+refused-requires : tie.Need-refused-requires
+refused-requires c κs = search needs
 
 same-length : tie.Need-same-length
 same-length c = search needs
@@ -172,7 +179,8 @@ same-length-8 c = search needs
 
 returns-3 : tie.Need-returns-3
 returns-3 c =
-    λ (t : ℕ) (x : List ℕ). of-none (whole (entry₆ c)) t close (c .before .before .find-row .ensures) (c .enum-told2 .given .1)
+    λ (t : ℕ) (x : List ℕ).
+    refused-leaves x (c .refused .ensures) (of-none (whole (entry₆ c)) t close (at-find-row₆ c .find-row .ensures) (c .before .enum-told2 .given .1))
 
 pub close-spec : {M : Type 1} → statement M
 close-spec =
@@ -187,6 +195,7 @@ close-spec =
     enum-told
     close-requires-2
     enum-told-2
+    refused-requires
     same-length
     same-length-2
     same-length-3

@@ -4,6 +4,7 @@ use mathlib.Core.List.{List}
 use Prim.Native.Nat.{ℕ}
 use Rattle.state.specs.State.{State, stateOf}
 use Rattle.rules.specs.Command.{commit}
+use Rattle.response_types.specs.Laws.{refused-leaves}
 use Rattle.session_by_id.proofs.Laws.{row-is, of-row, of-none}
 use Rattle.lookup.specs.Search.{row-low}
 use Rattle.session_row.specs.Lent.{on-slot}
@@ -92,8 +93,11 @@ at-found₄ c =
 abbrev at-commit2 : tie.After-slice-known9 → tie.After-commit2
 at-commit2 c = c .before .before .before .before .before .before
 
-abbrev entry₆ : tie.After-enum-told2 → tie.Start
-entry₆ c = c .before .before .before .before .before .before .before .before .before
+abbrev entry₆ : tie.After-refused → tie.Start
+entry₆ c = c .before .before .before .before .before .before .before .before .before .before
+
+abbrev at-find-row₆ : tie.After-refused → tie.After-find-row
+at-find-row₆ c = c .before .before .before
 
 abbrev whole : tie.Start → List ℕ → State
 whole s n = stateOf (s .args .control) (s .args .table .now) n (s .args .committed .now) (s .args .staged .now) (s .args .image .now) (s .args .hash .now)
@@ -131,6 +135,9 @@ commit-requires-2 c κs = (
 enum-told-2 : tie.Need-enum-told-2
 enum-told-2 c = search needs
 
+refused-requires : tie.Need-refused-requires
+refused-requires c κs = search needs
+
 same-length : tie.Need-same-length
 same-length c = search needs
 
@@ -164,7 +171,8 @@ same-length-6 c = search needs
 returns-3 : tie.Need-returns-3
 returns-3 c =
     let a = entry₆ c .args in
-    λ (n x : List ℕ). of-none (whole (entry₆ c) n) (a .clock) (commit (a .len) (a .rest)) (c .before .before .find-row .ensures) (c .enum-told2 .given .1)
+    λ (n x : List ℕ).
+    refused-leaves x (c .refused .ensures) (of-none (whole (entry₆ c) n) (a .clock) (commit (a .len) (a .rest)) (at-find-row₆ c .find-row .ensures) (c .before .enum-told2 .given .1))
 
 pub commit-spec : {M : Type 1} → statement M
 commit-spec =
@@ -179,6 +187,7 @@ commit-spec =
     enum-told
     commit-requires-2
     enum-told-2
+    refused-requires
     same-length
     same-length-2
     returns

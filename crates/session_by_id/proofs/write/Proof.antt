@@ -4,6 +4,7 @@ use mathlib.Core.List.{List}
 use Prim.Native.Nat.{ℕ}
 use Rattle.state.specs.State.{State, stateOf}
 use Rattle.rules.specs.Command.{write}
+use Rattle.response_types.specs.Laws.{refused-leaves}
 use Rattle.session_by_id.proofs.Laws.{row-is, of-row, of-none}
 use Rattle.lookup.specs.Search.{row-low}
 use Rattle.session_row.specs.Lent.{on-slot}
@@ -92,8 +93,11 @@ at-found₄ c =
 abbrev at-write2 : tie.After-slice-known9 → tie.After-write2
 at-write2 c = c .before .before .before .before .before .before
 
-abbrev entry₆ : tie.After-enum-told2 → tie.Start
-entry₆ c = c .before .before .before .before .before .before .before .before .before
+abbrev entry₆ : tie.After-refused → tie.Start
+entry₆ c = c .before .before .before .before .before .before .before .before .before .before
+
+abbrev at-find-row₆ : tie.After-refused → tie.After-find-row
+at-find-row₆ c = c .before .before .before
 
 abbrev whole : tie.Start → List ℕ → List ℕ → State
 whole s n m = stateOf (s .args .control) (s .args .table .now) n m (s .args .staged .now) (s .args .image .now) (s .args .hash .now)
@@ -129,6 +133,9 @@ write-requires-2 c κs = (
 enum-told-2 : tie.Need-enum-told-2
 enum-told-2 c = search needs
 
+refused-requires : tie.Need-refused-requires
+refused-requires c κs = search needs
+
 same-length : tie.Need-same-length
 same-length c = search needs
 
@@ -162,7 +169,8 @@ same-length-6 c = search needs
 returns-3 : tie.Need-returns-3
 returns-3 c =
     let a = entry₆ c .args in
-    λ (n m x : List ℕ). of-none (whole (entry₆ c) n m) (a .clock) (write (a .offset) (a .bytes .now)) (c .before .before .find-row .ensures) (c .enum-told2 .given .1)
+    λ (n m x : List ℕ).
+    refused-leaves x (c .refused .ensures) (of-none (whole (entry₆ c) n m) (a .clock) (write (a .offset) (a .bytes .now)) (at-find-row₆ c .find-row .ensures) (c .before .enum-told2 .given .1))
 
 pub write-spec : {M : Type 1} → statement M
 write-spec =
@@ -177,6 +185,7 @@ write-spec =
     enum-told
     write-requires-2
     enum-told-2
+    refused-requires
     same-length
     same-length-2
     returns

@@ -5,6 +5,7 @@ use Prim.Native.Nat.{ℕ}
 use Rattle.protocol.specs.Numbers.{imageSize, hashSize}
 use Rattle.protocol.specs.Names.{kindOf}
 use Rattle.state.specs.State.{State, stateOf}
+use Rattle.response_types.specs.Laws.{refused-leaves}
 use Rattle.session_flash.proofs.Laws.{holdsBytes, write-image, write-hash, write-d5, write-is}
 use native.Mathlib.Omega.{arith}
 use Rattle.rules.specs.Flash.{withImage, withHash}
@@ -46,6 +47,15 @@ at-enum-told2 c = c .before .before .before .before .before .before .before .bef
 abbrev at-write-whole2 : tie.After-said2 → tie.After-write-whole2
 at-write-whole2 c = c .before .before .before .before .before .before
 
+abbrev at-kind-of₃ : tie.After-refused → tie.After-kind-of
+at-kind-of₃ c = c .before .before .before
+
+abbrev at-kind-of₄ : tie.After-refused2 → tie.After-kind-of
+at-kind-of₄ c = c .before .before .before
+
+abbrev at-kind-of₅ : tie.After-refused3 → tie.After-kind-of
+at-kind-of₅ c = c .before .before .before
+
 kind-of-requires : tie.Need-kind-of-requires
 kind-of-requires c κs = search needs
 
@@ -76,11 +86,20 @@ said-requires-2 c κs = search needs
 enum-told-3 : tie.Need-enum-told-3
 enum-told-3 c = search needs
 
+refused-requires : tie.Need-refused-requires
+refused-requires c κs = search needs
+
 enum-told-4 : tie.Need-enum-told-4
 enum-told-4 c = search needs
 
+refused-requires-2 : tie.Need-refused-requires-2
+refused-requires-2 c κs = search needs
+
 enum-told-5 : tie.Need-enum-told-5
 enum-told-5 c = search needs
+
+refused-requires-3 : tie.Need-refused-requires-3
+refused-requires-3 c κs = search needs
 
 same-length : tie.Need-same-length
 same-length c = search needs
@@ -122,24 +141,30 @@ returns-2 c =
 
 returns-3 : tie.Need-returns-3
 returns-3 c =
-    let start = entry (c .before .before) in
+    let start = entry (at-kind-of₃ c) in
     let a = start .args in
-    λ (n m g x : List ℕ). write-d5 (whole start n m g) (a .r) (a .e) (start .pre .0 .row-words)
-    (start .pre .1 .0) (a .clock) (a .offset) (a .bytes .now) x (ap holdsBytes (sym (c .before .before .kind-of .ensures) ∙ c .enum-told3 .given .1))
+    λ (n m g x : List ℕ).
+    refused-leaves x (c .refused .ensures)
+    (write-d5 (whole start n m g) (a .r) (a .e) (start .pre .0 .row-words)
+    (start .pre .1 .0) (a .clock) (a .offset) (a .bytes .now) x (ap holdsBytes (sym (at-kind-of₃ c .kind-of .ensures) ∙ c .before .enum-told3 .given .1)))
 
 returns-4 : tie.Need-returns-4
 returns-4 c =
-    let start = entry (c .before .before) in
+    let start = entry (at-kind-of₄ c) in
     let a = start .args in
-    λ (n m g x : List ℕ). write-d5 (whole start n m g) (a .r) (a .e) (start .pre .0 .row-words)
-    (start .pre .1 .0) (a .clock) (a .offset) (a .bytes .now) x (ap holdsBytes (sym (c .before .before .kind-of .ensures) ∙ c .enum-told4 .given .1))
+    λ (n m g x : List ℕ).
+    refused-leaves x (c .refused2 .ensures)
+    (write-d5 (whole start n m g) (a .r) (a .e) (start .pre .0 .row-words)
+    (start .pre .1 .0) (a .clock) (a .offset) (a .bytes .now) x (ap holdsBytes (sym (at-kind-of₄ c .kind-of .ensures) ∙ c .before .enum-told4 .given .1)))
 
 returns-5 : tie.Need-returns-5
 returns-5 c =
-    let start = entry (c .before .before) in
+    let start = entry (at-kind-of₅ c) in
     let a = start .args in
-    λ (n m g x : List ℕ). write-d5 (whole start n m g) (a .r) (a .e) (start .pre .0 .row-words)
-    (start .pre .1 .0) (a .clock) (a .offset) (a .bytes .now) x (ap holdsBytes (sym (c .before .before .kind-of .ensures) ∙ c .enum-told5 .given .1))
+    λ (n m g x : List ℕ).
+    refused-leaves x (c .refused3 .ensures)
+    (write-d5 (whole start n m g) (a .r) (a .e) (start .pre .0 .row-words)
+    (start .pre .1 .0) (a .clock) (a .offset) (a .bytes .now) x (ap holdsBytes (sym (at-kind-of₅ c .kind-of .ensures) ∙ c .before .enum-told5 .given .1)))
 
 pub write-spec : {M : Type 1} → statement M
 write-spec =
@@ -155,8 +180,11 @@ write-spec =
     length-requires-2
     said-requires-2
     enum-told-3
+    refused-requires
     enum-told-4
+    refused-requires-2
     enum-told-5
+    refused-requires-3
     same-length
     same-length-2
     returns

@@ -6,6 +6,7 @@ use borrow.Author.Tests.{not-true, not-false}
 use Rattle.state.specs.State.{stateOf}
 use Rattle.state.specs.declared.row.Entry.{Entry}
 use Rattle.state.specs.Entry.{lifted}
+use Rattle.response_types.specs.Laws.{refused-leaves}
 use Rattle.session_store.proofs.Laws.{write-d5, write-is}
 use Rattle.protocol.specs.Sizes.{slot-size}
 use native.Mathlib.Omega.{arith}
@@ -14,8 +15,8 @@ use Rattle.session_store.proofs.write.Statement.{statement}
 use Rattle.session_store.proofs.write.Tie as tie
 
 -- the places that the answers read
-abbrev entry : tie.Then1 → tie.Start
-entry c = c .before .before .before .before .before
+abbrev entry : tie.After-refused → tie.Start
+entry c = c .before .before .before .before .before .before
 
 abbrev entry₂ : tie.After-length → tie.Start
 entry₂ c =
@@ -48,11 +49,16 @@ at-after-write c = c .before .before .before .before .before .before
 writes-requires : tie.Need-writes-requires
 writes-requires c κs = search needs
 
+refused-requires : tie.Need-refused-requires
+refused-requires c κs = search needs
+
 returns : tie.Need-returns
 returns c =
     let a = entry c .args in
-    λ (n cm im h x : List ℕ). write-d5 (stateOf (a .t1) (a .table .now) n cm (a .staged .now) im h) (a .r) (a .e) (entry c .pre .0 .row-words) (entry c .pre .1 .0) (a .clock) (a .offset) (a .bytes .now)
-    (sym (c .before .writes .ensures) ∙ not-true _ (c .if1 .taken))
+    λ (n cm im h x : List ℕ).
+    refused-leaves x (c .refused .ensures)
+    (write-d5 (stateOf (a .t1) (a .table .now) n cm (a .staged .now) im h) (a .r) (a .e) (entry c .pre .0 .row-words) (entry c .pre .1 .0) (a .clock) (a .offset) (a .bytes .now)
+    (sym (c .before .before .writes .ensures) ∙ not-true _ (c .before .if1 .taken)))
 
 mul-len : tie.Need-mul-len
 mul-len c = search needs
@@ -107,6 +113,7 @@ write-spec =
     tie.close
     (tie.spec
     writes-requires
+    refused-requires
     returns
     mul-len
     element-copy-out-len
