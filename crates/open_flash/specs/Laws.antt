@@ -3,8 +3,7 @@ use mathlib.Core.Path.{_≡_, sym, _∙_, ap}
 use mathlib.Core.Bool.{Bool, true, false, cond}
 use mathlib.Core.Option.{Option, none, some}
 use Prim.Native.Nat.{ℕ}
-use lib.Dec.{eqb}
-use borrow.Author.Tests.{eq-eqb, ne-eqb}
+use borrow.Author.Tests.{eqb-true}
 use Rattle.laws.specs.Find.{first}
 use Rattle.laws.specs.Masks.{clear}
 use Rattle.protocol.specs.Numbers.{slotCount, writeOnly, notFound, noRoom, busy, invalid}
@@ -12,6 +11,7 @@ use Rattle.protocol.specs.Names.{flashNumber}
 use Rattle.protocol.specs.Frame.{refused}
 use Rattle.protocol.specs.declared.FlashKind.{FlashKind}
 use Rattle.state.specs.State.{State, inBody}
+use Rattle.state.specs.Words.{flashFlags}
 use Rattle.rules.specs.Open.{openFlash}
 use Rattle.state.specs.declared.row.Place.the-variants.{AtFlash}
 use Rattle.state.specs.declared.row.Wanted.the-variants.{OnFlash}
@@ -23,16 +23,16 @@ use Rattle.rules.specs.Opening.{openedFlash, flashListed}
 use Rattle.rules.specs.OpenWays.{openFlashListed, openFlashQuiet, openFlashFree}
 
 module _ (k : FlashKind) (flags t : ℕ) (s : State) where
-  allowed : (x : Bool) → eqb flags writeOnly ≡ x → cond x (openFlashListed (flashListed k (s .flashGroup .phase)) k t s) (refused invalid, s) ≡ openFlash k flags t s
+  allowed : (x : Bool) → flashFlags flags ≡ x → cond x (openFlashListed (flashListed k (s .flashGroup .phase)) k t s) (refused invalid, s) ≡ openFlash k flags t s
   unfolding openFlash
   allowed x e = ap (λ (y : Bool). cond y (openFlashListed (flashListed k (s .flashGroup .phase)) k t s) (refused invalid, s)) (sym e)
 
-  pub flash-flags : (flags ≡ writeOnly → ⊥) → (refused invalid, s) ≡ openFlash k flags t s
-  flash-flags p = allowed false (ne-eqb flags writeOnly p)
+  pub flash-flags : flashFlags flags ≡ false → (refused invalid, s) ≡ openFlash k flags t s
+  flash-flags p = allowed false p
 
-  module _ (p : flags ≡ writeOnly) where
+  module _ (p : flashFlags flags ≡ true) where
     there : (x : Bool) → flashListed k (s .flashGroup .phase) ≡ x → openFlashListed x k t s ≡ openFlash k flags t s
-    there x e = ap (λ (y : Bool). openFlashListed y k t s) (sym e) ∙ allowed true (eq-eqb flags writeOnly p)
+    there x e = ap (λ (y : Bool). openFlashListed y k t s) (sym e) ∙ allowed true p
 
     pub flash-absent : flashListed k (s .flashGroup .phase) ≡ false → (refused notFound, s) ≡ openFlash k flags t s
     flash-absent e = there false e
@@ -56,6 +56,6 @@ module _ (k : FlashKind) (flags t : ℕ) (s : State) where
             → rowOpened r b flags 0 t (inBody AtFlash .put (openedFlash k (s .flashGroup)) s) ≡ openFlash k flags t s
         flash-ok r b q g =
             ap (λ (x : ℕ). rowOpened r x flags 0 t (inBody AtFlash .put (openedFlash k (s .flashGroup)) s)) q
-            ∙ ap (λ (x : ℕ). rowOpened r (flashNumber k) x 0 t (inBody AtFlash .put (openedFlash k (s .flashGroup)) s)) p
+            ∙ ap (λ (x : ℕ). rowOpened r (flashNumber k) x 0 t (inBody AtFlash .put (openedFlash k (s .flashGroup)) s)) (eqb-true flags writeOnly p)
             ∙ opened-is AtFlash r (flashNumber k) writeOnly 0 t (openedFlash k (s .flashGroup)) s
             ∙ free (some r) g

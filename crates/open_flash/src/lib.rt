@@ -14,10 +14,8 @@ ghost use Rattle.rules.specs.Opening.{openedFlash};
 use memory_copy::clear_at;
 use open_steps::open_row;
 use protocol::Code;
-use protocol::Flags;
 use protocol::FlashKind;
 use response_types::Act;
-use response_types::Said;
 use state::Control;
 use state::HASH_SIZE;
 use state::IMAGE_SIZE;
@@ -25,6 +23,7 @@ use state::Phase;
 use state::mask::Found;
 use state::mask::lowest_free;
 use state::row::Wanted;
+use state::row::flash_flags;
 use state::values::with_phase;
 
 // Image and hash begin empty, and the phase is Uploading; the other flash names change nothing (rule 9.13).
@@ -63,30 +62,18 @@ pub fn open_flash(
     requires { ⌜ (control .next < sixteenBits) × (TableLent (now table) × (ImageLent (now image) × HashLent (now hash))) ⌝ }
     ensures { λ o. ⌜ ((names committed staged answer : List ℕ) → afterAct o (now (table .exit)) names committed staged (now (image .exit)) (now (hash .exit)) answer ≡ openFlash kind flags clock (stateOf control (now (table .entry)) names committed staged (now (image .entry)) (now (hash .entry)))) ⌝ }
 {
-    if flags != Flags::WRITE.0 {
-        return Act {
-            said: Said::Refused(Code::INVALID),
-            control,
-        };
+    if !flash_flags(flags as u32) {
+        return Act::refused(Code::INVALID, control);
     }
     let phase = control.phase;
     if !flash_listed(kind, phase) {
-        return Act {
-            said: Said::Refused(Code::NOT_FOUND),
-            control,
-        };
+        return Act::refused(Code::NOT_FOUND, control);
     }
     let Found::Nothing = find_row(table, control.rows, Wanted::OnFlash) else {
-        return Act {
-            said: Said::Refused(Code::BUSY),
-            control,
-        };
+        return Act::refused(Code::BUSY, control);
     };
     let Found::At(r) = lowest_free(control.rows) else {
-        return Act {
-            said: Said::Refused(Code::NO_ROOM),
-            control,
-        };
+        return Act::refused(Code::NO_ROOM, control);
     };
     let number = kind.number();
     let next = empty_flash(kind, control, image, hash);

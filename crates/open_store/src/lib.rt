@@ -21,7 +21,6 @@ use open_steps::open_row;
 use open_steps::stage_slot;
 use protocol::Code;
 use response_types::Act;
-use response_types::Said;
 use state::Control;
 use state::mask::Found;
 use state::mask::lowest_free;
@@ -44,16 +43,10 @@ fn open_new(
     ensures { λ o. ⌜ ((committed staged image hash answer : List ℕ) → FreeZero (storeOf control (now (names .entry)) committed staged) → afterAct o (now (table .exit)) (now (names .exit)) committed staged image hash answer ≡ openNew (freeRowIn (stateOf control (now (table .entry)) (now (names .entry)) committed staged image hash)) (freeSlotIn (stateOf control (now (table .entry)) (now (names .entry)) committed staged image hash)) (part start len (now (message .entry))) flags clock (stateOf control (now (table .entry)) (now (names .entry)) committed staged image hash)) ⌝ }
 {
     let Found::At(r) = lowest_free(control.rows) else {
-        return Act {
-            said: Said::Refused(Code::NO_ROOM),
-            control,
-        };
+        return Act::refused(Code::NO_ROOM, control);
     };
     let Found::At(k) = lowest_free(control.slots) else {
-        return Act {
-            said: Said::Refused(Code::NO_ROOM),
-            control,
-        };
+        return Act::refused(Code::NO_ROOM, control);
     };
     let next = new_slot(k, message, start, len, control, names);
     open_row(r, k as u32, flags, 0, clock, next, table)
@@ -73,16 +66,10 @@ fn open_held(
     ensures { λ o. ⌜ ((names image hash answer : List ℕ) → afterAct o (now (table .exit)) names (now (committed .entry)) (now (staged .exit)) image hash answer ≡ openHeld (rowFound (OnBlob k) (stateOf control (now (table .entry)) names (now (committed .entry)) (now (staged .entry)) image hash)) k flags clock (stateOf control (now (table .entry)) names (now (committed .entry)) (now (staged .entry)) image hash)) ⌝ }
 {
     let Found::Nothing = find_row(table, control.rows, Wanted::OnBlob(k as u32)) else {
-        return Act {
-            said: Said::Refused(Code::BUSY),
-            control,
-        };
+        return Act::refused(Code::BUSY, control);
     };
     let Found::At(r) = lowest_free(control.rows) else {
-        return Act {
-            said: Said::Refused(Code::NO_ROOM),
-            control,
-        };
+        return Act::refused(Code::NO_ROOM, control);
     };
     let next = stage_slot(k, flags, control, committed, staged);
     open_row(r, k as u32, flags, 1, clock, next, table)
@@ -105,19 +92,13 @@ pub fn open_store(
     ensures { λ o. ⌜ ((image hash answer : List ℕ) → afterAct o (now (table .exit)) (now (names .exit)) (now (committed .exit)) (now (staged .exit)) image hash answer ≡ openStore (part start len (now (message .entry))) flags clock (stateOf control (now (table .entry)) (now (names .entry)) (now (committed .entry)) (now (staged .entry)) image hash)) ⌝ }
 {
     if !store_flags(flags as u32) {
-        return Act {
-            said: Said::Refused(Code::INVALID),
-            control,
-        };
+        return Act::refused(Code::INVALID, control);
     }
     if let Found::At(k) = find_name(names, control.slots, message, start, len) {
         return open_held(k, flags, clock, control, table, committed, staged);
     }
     if !writes_with(flags as u32) {
-        return Act {
-            said: Said::Refused(Code::NOT_FOUND),
-            control,
-        };
+        return Act::refused(Code::NOT_FOUND, control);
     }
     open_new(start, len, flags, clock, message, control, table, names)
 }

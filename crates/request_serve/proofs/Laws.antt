@@ -19,12 +19,10 @@ use Rattle.protocol.specs.Frame.{Reply}
 use Rattle.state.specs.State.{State, Slot}
 use Rattle.state.specs.Parts.{Shape}
 use Rattle.state.specs.Soundness.{slotAt, lentRight, valuesFit, flashFits, rowOk, rowsApart, hasWriter, usedSlot, unusedSlot, slotOk, namesApart, isSound}
-use Rattle.state.specs.Agree.{sound-of-test, test-of-sound}
+use Rattle.state.specs.Agree.{sound-of-test}
 use Rattle.rules.specs.Command.{write}
 use Rattle.state.specs.declared.row.Wanted.the-variants.{Id}
 use Rattle.rules.specs.Session.{onSession}
-use Rattle.rules.specs.Sweep.{swept}
-use Rattle.guarantees.specs.Keep.{swept-sound}
 
 -- ---- the lengths of slot k fit
 -- the tests of a length, out of a used slot's and out of an unused slot's
@@ -60,12 +58,9 @@ lengths-fit s h k l = go (eqb (slotAt k s .held) 1) here
     go true e = used-fits (slotAt k s) (hasWriter s k) e
     go false e = unused-fits (slotAt k s) e
 
--- what is lent has the right lengths; a sweep keeps soundness
+-- what is lent has the right lengths
 pub shape-of : (s : State) → isSound s ≡ true → Shape s
 shape-of s h = sound-of-test s h .shape
-
-pub swept-test : (t : ℕ) (s x : State) → isSound s ≡ true → x ≡ swept t s → isSound x ≡ true
-swept-test t s x h e = ap isSound e ∙ test-of-sound (swept t s) (swept-sound t s (sound-of-test s h))
 
 -- ---- what a request points to stands in the message
 pub inside-of : (m : List ℕ) (p q : Request) → p ≡ decoded m → p ≡ q → Inside m q

@@ -1,57 +1,16 @@
 // One request on a sound state: each command's code is called with what it touches.
 ghost use mathlib.Core.Path.{_≡_};
 ghost use mathlib.Core.Bool.{true};
-ghost use mathlib.Core.List.{List};
-ghost use Prim.Native.Nat.{ℕ};
-ghost use lib.ListN.{length};
 ghost use Rattle.protocol.specs.Decode.{decoded};
-ghost use Rattle.protocol.specs.Inside.{BlobInside};
 ghost use Rattle.state.specs.State.{stateOf};
 ghost use Rattle.state.specs.Soundness.{isSound};
 ghost use Rattle.state.specs.Lent.{AnswerLent};
 ghost use Rattle.rules.specs.Respond.{answered};
-ghost use Rattle.rules.specs.Open.{openBlob};
-ghost use Rattle.rules.specs.Sweep.{swept};
 ghost use Rattle.response_types.specs.After.{afterAct};
 ghost use Rattle.request_serve.specs.Serves.{Serves};
-use protocol::Blob;
 use protocol::Request;
 use response_types::Act;
-use response_types::Said;
 use state::Control;
-
-// Open: the sweep comes first, if it is due.
-fn sweep_and_open(
-    blob: Blob,
-    flags: u16,
-    clock: u32,
-    message: &[u8],
-    control: Control,
-    table: &mut [u32],
-    names: &mut [u8],
-    committed: &mut [u8],
-    staged: &mut [u8],
-    image: &mut [u8],
-    hash: &mut [u8],
-) -> Act
-    requires { ⌜ (isSound (stateOf control (now table) (now names) (now committed) (now staged) (now image) (now hash)) ≡ true) × BlobInside (now message) blob ⌝ }
-    ensures { λ o. ⌜ ((answer : List ℕ) → afterAct o (now (table .exit)) (now (names .exit)) (now (committed .exit)) (now (staged .exit)) (now (image .exit)) (now (hash .exit)) answer ≡ openBlob blob flags clock (now (message .entry)) (swept clock (stateOf control (now (table .entry)) (now (names .entry)) (now (committed .entry)) (now (staged .entry)) (now (image .entry)) (now (hash .entry))))) ⌝ }
-{
-    let after = open_sweep::sweep(clock, control, table, names, committed, staged, image, hash);
-    open::open(
-        blob,
-        flags,
-        clock,
-        message,
-        after,
-        table,
-        names,
-        committed,
-        staged,
-        image,
-        hash,
-    )
-}
 
 // What the request comes to: what is said, the control block, and the fields of Read and Enumerate in their place in the answer buffer.
 pub fn serve(
@@ -79,7 +38,7 @@ pub fn serve(
             said: name_list::enumerate(index, control, names, answer),
             control,
         },
-        Request::Open { flags, blob } => sweep_and_open(
+        Request::Open { flags, blob } => open::open(
             blob,
             flags,
             clock,
@@ -162,9 +121,6 @@ pub fn serve(
             said: session_by_id::write_meta(control, table, session as u32),
             control,
         },
-        Request::Refused(code) => Act {
-            said: Said::Refused(code),
-            control,
-        },
+        Request::Refused(code) => Act::refused(code, control),
     }
 }

@@ -1,136 +1,128 @@
--- `open`: by what the name names.
-use mathlib.Core.Path.{sym, _∙_, ap, subst}
-use lib.ListN.{length}
-use Rattle.protocol.specs.Inside.{BlobInside}
-use Rattle.protocol.specs.declared.Blob.{Blob}
+-- `open`: a sweep keeps what Open asks for.
+use mathlib.Core.Path.{_≡_, _∙_, ap}
+use mathlib.Core.Bool.{true}
+use mathlib.Core.List.{List}
+use Prim.Native.Nat.{ℕ}
 use Rattle.state.specs.State.{State, stateOf}
-use Rattle.state.specs.Agree.{sound-of-test, free-of-test}
+use Rattle.state.specs.Soundness.{isSound}
+use Rattle.state.specs.Agree.{sound-of-test, test-of-sound}
 use Rattle.rules.specs.Open.{openBlob}
-use borrow.Author.Needs.{needs}
+use Rattle.rules.specs.Sweep.{swept}
+use Rattle.guarantees.specs.Keep.{swept-sound}
 use Rattle.open.proofs.open.Statement.{statement}
 use Rattle.open.proofs.open.Tie as tie
 
 -- the places that the answers read
-abbrev entry : tie.After-blob → tie.Start
-entry c = c .before .before .before .before .before .before .before .before .before
+abbrev entry : tie.After-sweep-arg6 → tie.Start
+entry c = c .before .before .before .before .before .before .before .before .before .before .before .before .before
 
-abbrev entry₂ : tie.After-open-flash-arg3 → tie.Start
-entry₂ c = c .before .before .before .before .before .before .before .before .before .before .before .before .before
+abbrev entry₂ : tie.After-table → tie.Start
+entry₂ c =
+    c .before .before .before .before .before .before .before .before .before .before .before .before .before .before
+    .before
 
-abbrev entry₃ : tie.After-slice-known13 → tie.Start
-entry₃ c =
+abbrev at-table : tie.After-open-swept-arg6 → tie.After-table
+at-table c =
+    c .before .before .before .before .before .before .before .before .before .before .before .before .before .before
+    .before .before .before
+
+abbrev at-table₂ : tie.After-slice-known18 → tie.After-table
+at-table₂ c =
+    c .before .before .before .before .before .before .before .before .before .before .before .before .before .before
+    .before .before .before .before .before .before .before .before .before .before .before .before .before .before
+    .before .before
+
+abbrev at-names : tie.After-slice-known18 → tie.After-names
+at-names c =
+    c .before .before .before .before .before .before .before .before .before .before .before .before .before .before
+    .before .before .before .before .before .before .before .before .before .before .before .before .before .before
+
+abbrev at-committed : tie.After-slice-known18 → tie.After-committed
+at-committed c =
+    c .before .before .before .before .before .before .before .before .before .before .before .before .before .before
+    .before .before .before .before .before .before .before .before .before .before .before .before
+
+abbrev at-staged : tie.After-slice-known18 → tie.After-staged
+at-staged c =
+    c .before .before .before .before .before .before .before .before .before .before .before .before .before .before
+    .before .before .before .before .before .before .before .before .before .before
+
+abbrev at-image : tie.After-slice-known18 → tie.After-image
+at-image c =
+    c .before .before .before .before .before .before .before .before .before .before .before .before .before .before
+    .before .before .before .before .before .before .before .before
+
+abbrev at-hash : tie.After-slice-known18 → tie.After-hash
+at-hash c =
     c .before .before .before .before .before .before .before .before .before .before .before .before .before .before
     .before .before .before .before .before .before
 
-abbrev entry₄ : tie.After-enum-told → tie.Start
-entry₄ c = c .before .before .before .before .before .before .before .before .before
+abbrev at-table2 : tie.After-slice-known18 → tie.After-table2
+at-table2 c = c .before .before .before .before .before .before .before .before .before .before .before
 
-abbrev entry₅ : tie.After-enum-told2 → tie.Start
-entry₅ c = c .before .before .before .before .before .before .before .before .before
+abbrev at-names2 : tie.After-slice-known18 → tie.After-names2
+at-names2 c = c .before .before .before .before .before .before .before .before .before
 
-abbrev at-blob : tie.After-open-store-arg4 → tie.After-blob
-at-blob c = c .before .before .before .before .before
+abbrev at-committed2 : tie.After-slice-known18 → tie.After-committed2
+at-committed2 c = c .before .before .before .before .before .before .before
 
-abbrev at-blob₂ : tie.After-slice-known10 → tie.After-blob
-at-blob₂ c = c .before .before .before .before .before .before .before .before .before .before .before .before .before .before
+abbrev at-staged2 : tie.After-slice-known18 → tie.After-staged2
+at-staged2 c = c .before .before .before .before .before
 
-abbrev at-open-store : tie.After-slice-known10 → tie.After-open-store
-at-open-store c = c .before .before .before .before .before .before .before .before
-
-abbrev at-blob2 : tie.After-slice-known13 → tie.After-blob2
-at-blob2 c = c .before .before .before .before .before .before .before .before .before .before .before
-
-abbrev at-open-flash : tie.After-slice-known13 → tie.After-open-flash
-at-open-flash c = c .before .before .before .before .before .before
+abbrev at-image2 : tie.After-slice-known18 → tie.After-image2
+at-image2 c = c .before .before .before
 
 -- the state at entry
 abbrev whole : tie.Start → State
 whole c = let a = c .args in stateOf (a .control) (a .table .now) (a .names .now) (a .committed .now) (a .staged .now) (a .image .now) (a .hash .now)
 
-enum-known-blob : tie.Need-enum-known-blob
-enum-known-blob c = search needs
+-- a sweep keeps soundness
+swept-test : (t : ℕ) (s x : State) → isSound s ≡ true → x ≡ swept t s → isSound x ≡ true
+swept-test t s x h e = ap isSound e ∙ test-of-sound (swept t s) (swept-sound t s (sound-of-test s h))
 
-open-store-requires : tie.Need-open-store-requires
-open-store-requires c κs =
-    let blob = at-blob c in
-    let start = entry blob in
-    let a = start .args in
-    let i = subst (BlobInside (a .message .now)) (blob .blob .given .1) (start .pre .0) in
-    let g = start .pre .1 in
-    let p = sound-of-test (whole start) g .shape in
-    ((i .ends, i .short), (p .next-small, (p .table-size, (p .names-size, (p .committed-size, (p .staged-size, free-of-test (whole start) g))))))
+sweep-requires : tie.Need-sweep-requires
+sweep-requires c κs = let g = sound-of-test (whole (entry c)) (entry c .pre .0) .shape in (g .table-size, (g .names-size, (g .committed-size, (g .staged-size, (g .image-size, g .hash-size)))))
 
-enum-known-blob-2 : tie.Need-enum-known-blob-2
-enum-known-blob-2 c = search needs
-
-open-flash-requires : tie.Need-open-flash-requires
-open-flash-requires c κs = let p = sound-of-test (whole (entry₂ c)) (entry₂ c .pre .1) .shape in (p .next-small, (p .table-size, (p .image-size, p .hash-size)))
-
-enum-told : tie.Need-enum-told
-enum-told c = search needs
-
-enum-told-2 : tie.Need-enum-told-2
-enum-told-2 c = search needs
+open-swept-requires : tie.Need-open-swept-requires
+open-swept-requires c κs =
+    let table = at-table c in
+    let start = entry₂ table in
+    (start .pre .1, swept-test (start .args .clock) (whole start) _ (start .pre .0) (table .before .sweep .ensures))
 
 same-length : tie.Need-same-length
-same-length c = search needs
+same-length c = at-table2 c .table2 .given ∙ at-table₂ c .table .given
 
 same-length-2 : tie.Need-same-length-2
-same-length-2 c = search needs
+same-length-2 c = at-names2 c .names2 .given ∙ at-names c .names .given
 
 same-length-3 : tie.Need-same-length-3
-same-length-3 c = search needs
+same-length-3 c = at-committed2 c .committed2 .given ∙ at-committed c .committed .given
 
 same-length-4 : tie.Need-same-length-4
-same-length-4 c = search needs
-
-returns : tie.Need-returns
-unfolding openBlob
-returns c =
-    λ x. let start = entry (at-blob₂ c) in let a = start .args in at-open-store c .open-store .ensures (a .image .now) (a .hash .now) x ∙ ap
-    (λ (b : Blob). openBlob b (a .flags) (a .clock) (a .message .now) (whole start)) (sym (at-blob₂ c .blob .given .1))
+same-length-4 c = at-staged2 c .staged2 .given ∙ at-staged c .staged .given
 
 same-length-5 : tie.Need-same-length-5
-same-length-5 c = search needs
+same-length-5 c = at-image2 c .image2 .given ∙ at-image c .image .given
 
 same-length-6 : tie.Need-same-length-6
-same-length-6 c = search needs
+same-length-6 c = c .before .hash2 .given ∙ at-hash c .hash .given
 
-same-length-7 : tie.Need-same-length-7
-same-length-7 c = search needs
-
-returns-2 : tie.Need-returns-2
-unfolding openBlob
-returns-2 c =
-    λ x. let start = entry₃ c in let a = start .args in at-open-flash c .open-flash .ensures (a .names .now) (a .committed .now) (a .staged .now) x ∙ ap
-    (λ (b : Blob). openBlob b (a .flags) (a .clock) (a .message .now) (whole start)) (sym (at-blob2 c .blob2 .given .1))
-
-returns-3 : tie.Need-returns-3
-unfolding openBlob
-returns-3 c = λ _. let start = entry₄ c in let a = start .args in ap (λ (b : Blob). openBlob b (a .flags) (a .clock) (a .message .now) (whole start)) (sym (c .enum-told .given .1))
-
-returns-4 : tie.Need-returns-4
-unfolding openBlob
-returns-4 c = λ _. let start = entry₅ c in let a = start .args in ap (λ (b : Blob). openBlob b (a .flags) (a .clock) (a .message .now) (whole start)) (sym (c .enum-told2 .given .1))
+returns : tie.Need-returns
+returns c =
+    let table = at-table₂ c in
+    let start = entry₂ table in
+    λ (a : List ℕ). at-table2 c .before .open-swept .ensures a ∙ ap (openBlob (start .args .blob) (start .args .flags) (start .args .clock) (start .args .message .now)) (table .before .sweep .ensures)
 
 pub open-spec : {M : Type 1} → statement M
 open-spec =
     tie.close
     (tie.spec
-    enum-known-blob
-    open-store-requires
-    enum-known-blob-2
-    open-flash-requires
-    enum-told
-    enum-told-2
+    sweep-requires
+    open-swept-requires
     same-length
     same-length-2
     same-length-3
     same-length-4
-    returns
     same-length-5
     same-length-6
-    same-length-7
-    returns-2
-    returns-3
-    returns-4)
+    returns)

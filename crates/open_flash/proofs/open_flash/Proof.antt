@@ -11,6 +11,7 @@ use Rattle.state.specs.Answers.{optionOf}
 use Rattle.open_steps.specs.Steps.{rowOpened}
 use Rattle.open_flash.specs.Laws.{flash-flags, flash-absent, flash-busy, flash-no-row, flash-ok}
 use Rattle.lookup.specs.Search.{row-in}
+use Rattle.response_types.specs.Laws.{refused-leaves}
 use borrow.Author.Needs.{needs}
 use Rattle.open_flash.proofs.open_flash.Statement.{statement}
 use Rattle.open_flash.proofs.open_flash.Tie as tie
@@ -110,22 +111,35 @@ at-lowest-free₂ c =
     c .before .before .before .before .before .before .before .before .before .before .before .before .before .before
     .before
 
+flash-flags-requires : tie.Need-flash-flags-requires
+flash-flags-requires c κs = search needs
+
+refused-requires : tie.Need-refused-requires
+refused-requires c κs = search needs
+
 returns : tie.Need-returns
 returns c =
-    λ n d g _.
-    let a = entry c .args in
-    let t = a .table .now in
-    flash-flags (a .kind) (a .flags) (a .clock) (stateOf (a .control) t n d g (a .image .now) (a .hash .now)) (c .if1 .taken)
+    let place = c .before in
+    let a = entry place .args in
+    λ n d g x.
+    let s = stateOf (a .control) (a .table .now) n d g (a .image .now) (a .hash .now) in
+    refused-leaves x (c .refused .ensures) (flash-flags (a .kind) (a .flags) (a .clock) s (sym (place .before .flash-flags .ensures) ∙ not-true _ (place .if1 .taken)))
 
 flash-listed-requires : tie.Need-flash-listed-requires
 flash-listed-requires c κs = search needs
 
+refused-requires-2 : tie.Need-refused-requires-2
+refused-requires-2 c κs = search needs
+
 returns-2 : tie.Need-returns-2
 returns-2 c =
-    λ n d g _.
-    let a = entry₂ c .args in
-    let t = a .table .now in
-    flash-absent (a .kind) (a .flags) (a .clock) (stateOf (a .control) t n d g (a .image .now) (a .hash .now)) (c .before .before .if1 .left) (sym (c .before .flash-listed .ensures) ∙ not-true _ (c .if2 .taken))
+    let place = c .before in
+    let allowed = place .before .before in
+    let a = entry₂ place .args in
+    λ n d g x.
+    let s = stateOf (a .control) (a .table .now) n d g (a .image .now) (a .hash .now) in
+    refused-leaves x (c .refused2 .ensures) (flash-absent (a .kind) (a .flags) (a .clock) s (sym (allowed .before .flash-flags .ensures) ∙ not-false _ (allowed .if1 .left))
+    (sym (place .before .flash-listed .ensures) ∙ not-true _ (place .if2 .taken)))
 
 find-row-requires : tie.Need-find-row-requires
 find-row-requires c κs = search needs
@@ -136,16 +150,21 @@ enum-told c = search needs
 enum-told-2 : tie.Need-enum-told-2
 enum-told-2 c = search needs
 
+refused-requires-3 : tie.Need-refused-requires-3
+refused-requires-3 c κs = search needs
+
 same-length : tie.Need-same-length
 same-length c = search needs
 
 returns-3 : tie.Need-returns-3
 returns-3 c =
-    λ n d g _.
-    let a = entry₃ c .args in
-    let t = a .table .now in
-    let s = stateOf (a .control) t n d g (a .image .now) (a .hash .now) in
-    flash-busy (a .kind) (a .flags) (a .clock) s (at-if1 c .if1 .left) (sym (at-flash-listed c .flash-listed .ensures) ∙ not-false _ (at-if2 c .if2 .left)) _ (row-in s (c .before .before .find-row .ensures) (c .enum-told2 .given .1))
+    let place = c .before in
+    let allowed = at-if1 place in
+    let a = entry₃ place .args in
+    λ n d g x.
+    let s = stateOf (a .control) (a .table .now) n d g (a .image .now) (a .hash .now) in
+    refused-leaves x (c .refused3 .ensures) (flash-busy (a .kind) (a .flags) (a .clock) s (sym (allowed .before .flash-flags .ensures) ∙ not-false _ (allowed .if1 .left))
+    (sym (at-flash-listed place .flash-listed .ensures) ∙ not-false _ (at-if2 place .if2 .left)) _ (row-in s (place .before .before .find-row .ensures) (place .enum-told2 .given .1)))
 
 lowest-free-requires : tie.Need-lowest-free-requires
 lowest-free-requires c κs = search needs
@@ -156,17 +175,22 @@ enum-known-r c = search needs
 enum-told-3 : tie.Need-enum-told-3
 enum-told-3 c = search needs
 
+refused-requires-4 : tie.Need-refused-requires-4
+refused-requires-4 c κs = search needs
+
 same-length-2 : tie.Need-same-length-2
 same-length-2 c = search needs
 
 returns-4 : tie.Need-returns-4
 returns-4 c =
-    λ n d g _.
-    let a = entry₄ c .args in
-    let t = a .table .now in
-    let s = stateOf (a .control) t n d g (a .image .now) (a .hash .now) in
-    flash-no-row (a .kind) (a .flags) (a .clock) s (at-if1₂ c .if1 .left) (sym (at-flash-listed₂ c .flash-listed .ensures) ∙ not-false _ (at-if2₂ c .if2 .left))
-    (row-in s (at-find-row c .find-row .ensures) (at-enum-told c .enum-told .given .1)) (sym (c .before .before .lowest-free .ensures) ∙ ap optionOf (c .enum-told3 .given .1))
+    let place = c .before in
+    let allowed = at-if1₂ place in
+    let a = entry₄ place .args in
+    λ n d g x.
+    let s = stateOf (a .control) (a .table .now) n d g (a .image .now) (a .hash .now) in
+    refused-leaves x (c .refused4 .ensures) (flash-no-row (a .kind) (a .flags) (a .clock) s (sym (allowed .before .flash-flags .ensures) ∙ not-false _ (allowed .if1 .left))
+    (sym (at-flash-listed₂ place .flash-listed .ensures) ∙ not-false _ (at-if2₂ place .if2 .left)) (row-in s (at-find-row place .find-row .ensures) (at-enum-told place .enum-told .given .1))
+    (sym (place .before .before .lowest-free .ensures) ∙ ap optionOf (place .enum-told3 .given .1)))
 
 number-requires : tie.Need-number-requires
 number-requires c κs = search needs
@@ -197,7 +221,7 @@ returns-5 c =
     let s = stateOf (a .control) t n d g (a .image .now) (a .hash .now) in
     c .before .before .open-row .ensures n d g (at-empty-flash₂ c .empty-flash .last .1 .1 .0) (at-empty-flash₂ c .empty-flash .last .1 .1 .1 .0) x
     ∙ ap (rowOpened (at-r₂ c .r .given .0 .0) (at-number c .number .result) (a .flags) 0 (a .clock)) (at-empty-flash₂ c .empty-flash .ensures t n d g)
-    ∙ flash-ok (a .kind) (a .flags) (a .clock) s (at-if1₃ c .if1 .left) (sym (at-flash-listed₃ c .flash-listed .ensures) ∙ not-false _ (at-if2₃ c .if2 .left))
+    ∙ flash-ok (a .kind) (a .flags) (a .clock) s (sym (at-if1₃ c .before .flash-flags .ensures) ∙ not-false _ (at-if1₃ c .if1 .left)) (sym (at-flash-listed₃ c .flash-listed .ensures) ∙ not-false _ (at-if2₃ c .if2 .left))
     (row-in s (at-find-row₂ c .find-row .ensures) (at-enum-told₂ c .enum-told .given .1)) (at-r₂ c .r .given .0 .0) (at-number c .number .result) (at-number c .number .ensures)
     (sym (at-lowest-free₂ c .lowest-free .ensures) ∙ ap optionOf (at-r₂ c .r .given .1))
 
@@ -205,17 +229,22 @@ pub open-flash-spec : {M : Type 1} → statement M
 open-flash-spec =
     tie.close
     (tie.spec
+    flash-flags-requires
+    refused-requires
     returns
     flash-listed-requires
+    refused-requires-2
     returns-2
     find-row-requires
     enum-told
     enum-told-2
+    refused-requires-3
     same-length
     returns-3
     lowest-free-requires
     enum-known-r
     enum-told-3
+    refused-requires-4
     same-length-2
     returns-4
     number-requires

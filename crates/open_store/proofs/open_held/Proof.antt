@@ -10,6 +10,7 @@ use mathlib.Core.List.{[]}
 use Rattle.open_steps.specs.Steps.{rowOpened}
 use Rattle.open_store.specs.Laws.{held-busy, held-no-row, held-ok}
 use Rattle.lookup.specs.Search.{row-in}
+use Rattle.response_types.specs.Laws.{refused-leaves}
 use borrow.Author.Needs.{needs}
 use Rattle.open_store.proofs.open_held.Statement.{statement}
 use Rattle.open_store.proofs.open_held.Tie as tie
@@ -73,15 +74,19 @@ enum-told c = search needs
 enum-told-2 : tie.Need-enum-told-2
 enum-told-2 c = search needs
 
+refused-requires : tie.Need-refused-requires
+refused-requires c κs = search needs
+
 same-length : tie.Need-same-length
 same-length c = search needs
 
 returns : tie.Need-returns
 returns c =
-    λ n i h _.
-    let a = entry c .args in
+    let place = c .before in
+    let a = entry place .args in
+    λ n i h x.
     let s = stateOf (a .control) (a .table .now) n (a .committed .now) (a .staged .now) i h in
-    held-busy (a .k) (a .flags) (a .clock) s _ (row-in s (c .before .before .find-row .ensures) (c .enum-told2 .given .1))
+    refused-leaves x (c .refused .ensures) (held-busy (a .k) (a .flags) (a .clock) s _ (row-in s (place .before .before .find-row .ensures) (place .enum-told2 .given .1)))
 
 lowest-free-requires : tie.Need-lowest-free-requires
 lowest-free-requires c κs = search needs
@@ -92,15 +97,20 @@ enum-known-r c = search needs
 enum-told-3 : tie.Need-enum-told-3
 enum-told-3 c = search needs
 
+refused-requires-2 : tie.Need-refused-requires-2
+refused-requires-2 c κs = search needs
+
 same-length-2 : tie.Need-same-length-2
 same-length-2 c = search needs
 
 returns-2 : tie.Need-returns-2
 returns-2 c =
-    λ n i h _.
-    let a = entry₂ c .args in
+    let place = c .before in
+    let a = entry₂ place .args in
+    λ n i h x.
     let s = stateOf (a .control) (a .table .now) n (a .committed .now) (a .staged .now) i h in
-    held-no-row (a .k) (a .flags) (a .clock) s (row-in s (at-find-row c .find-row .ensures) (at-enum-told c .enum-told .given .1)) (sym (c .before .before .lowest-free .ensures) ∙ ap optionOf (c .enum-told3 .given .1))
+    refused-leaves x (c .refused2 .ensures) (held-no-row (a .k) (a .flags) (a .clock) s (row-in s (at-find-row place .find-row .ensures) (at-enum-told place .enum-told .given .1))
+    (sym (place .before .before .lowest-free .ensures) ∙ ap optionOf (place .enum-told3 .given .1)))
 
 stage-slot-requires : tie.Need-stage-slot-requires
 stage-slot-requires c κs = search needs
@@ -140,11 +150,13 @@ open-held-spec =
     find-row-requires
     enum-told
     enum-told-2
+    refused-requires
     same-length
     returns
     lowest-free-requires
     enum-known-r
     enum-told-3
+    refused-requires-2
     same-length-2
     returns-2
     stage-slot-requires

@@ -12,6 +12,7 @@ use Rattle.state.specs.Answers.{optionOf}
 use mathlib.Core.List.{[]}
 use Rattle.open_steps.specs.Steps.{rowOpened}
 use Rattle.open_store.specs.Laws.{new-no-row, new-no-slot, new-ok}
+use Rattle.response_types.specs.Laws.{refused-leaves}
 use borrow.Author.Needs.{needs}
 use Rattle.open_store.proofs.open_new.Statement.{statement}
 use Rattle.open_store.proofs.open_new.Tie as tie
@@ -66,13 +67,16 @@ enum-known-r c = search needs
 enum-told : tie.Need-enum-told
 enum-told c = search needs
 
+refused-requires : tie.Need-refused-requires
+refused-requires c κs = search needs
+
 returns : tie.Need-returns
 returns c =
-    λ d g i h _ _.
-    let start = entry c in
+    let place = c .before in
+    let start = entry place in
     let a = start .args in
-    new-no-row (part (a .start) (a .len) (a .message .now)) (a .flags) (a .clock) (whole start d g i h)
-    (sym (c .before .before .lowest-free .ensures) ∙ ap optionOf (c .enum-told .given .1))
+    λ d g i h x _. refused-leaves x (c .refused .ensures) (new-no-row (part (a .start) (a .len) (a .message .now)) (a .flags) (a .clock) (whole start d g i h)
+    (sym (place .before .before .lowest-free .ensures) ∙ ap optionOf (place .enum-told .given .1)))
 
 lowest-free-requires-2 : tie.Need-lowest-free-requires-2
 lowest-free-requires-2 c κs = search needs
@@ -83,14 +87,18 @@ enum-known-k c = search needs
 enum-told-2 : tie.Need-enum-told-2
 enum-told-2 c = search needs
 
+refused-requires-2 : tie.Need-refused-requires-2
+refused-requires-2 c κs = search needs
+
 returns-2 : tie.Need-returns-2
 returns-2 c =
-    λ d g i h _ _.
-    let start = entry₂ (c .before .before) in
+    let place = c .before in
+    let call = place .before .before in
+    let start = entry₂ call in
     let a = start .args in
-    new-no-slot (part (a .start) (a .len) (a .message .now)) (a .flags) (a .clock) (whole start d g i h)
-    (at-r (c .before .before) .r .given .0 .0) (sym (at-lowest-free (c .before .before) .lowest-free .ensures) ∙ ap optionOf (at-r (c .before .before) .r .given .1))
-    (sym (c .before .before .lowest-free2 .ensures) ∙ ap optionOf (c .enum-told2 .given .1))
+    λ d g i h x _. refused-leaves x (c .refused2 .ensures) (new-no-slot (part (a .start) (a .len) (a .message .now)) (a .flags) (a .clock) (whole start d g i h)
+    (at-r call .r .given .0 .0) (sym (at-lowest-free call .lowest-free .ensures) ∙ ap optionOf (at-r call .r .given .1))
+    (sym (call .lowest-free2 .ensures) ∙ ap optionOf (place .enum-told2 .given .1)))
 
 new-slot-requires : tie.Need-new-slot-requires
 new-slot-requires c κs =
@@ -143,10 +151,12 @@ open-new-spec =
     lowest-free-requires
     enum-known-r
     enum-told
+    refused-requires
     returns
     lowest-free-requires-2
     enum-known-k
     enum-told-2
+    refused-requires-2
     returns-2
     new-slot-requires
     cast-open-row

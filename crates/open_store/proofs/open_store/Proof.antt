@@ -5,6 +5,7 @@ use Rattle.state.specs.State.{stateOf}
 use borrow.Author.Tests.{not-true, not-false}
 use Rattle.open_store.specs.Laws.{flags-bad, name-held, name-absent, name-new}
 use Rattle.lookup.specs.Search.{slot-in, slot-low}
+use Rattle.response_types.specs.Laws.{refused-leaves}
 use borrow.Author.Needs.{needs}
 use Rattle.open_store.proofs.open_store.Statement.{statement}
 use Rattle.open_store.proofs.open_store.Tie as tie
@@ -90,11 +91,16 @@ at-if2 c = c .before .before .before .before .before .before .before
 store-flags-requires : tie.Need-store-flags-requires
 store-flags-requires c κs = search needs
 
+refused-requires : tie.Need-refused-requires
+refused-requires c κs = search needs
+
 returns : tie.Need-returns
 returns c =
-    λ i h _.
-    let a = entry c .args in
-    flags-bad (part (a .start) (a .len) (a .message .now)) (a .flags) (a .clock) (stateOf (a .control) (a .table .now) (a .names .now) (a .committed .now) (a .staged .now) i h) (sym (c .before .store-flags .ensures) ∙ not-true _ (c .if1 .taken))
+    let place = c .before in
+    let a = entry place .args in
+    λ i h x.
+    let s = stateOf (a .control) (a .table .now) (a .names .now) (a .committed .now) (a .staged .now) i h in
+    refused-leaves x (c .refused .ensures) (flags-bad (part (a .start) (a .len) (a .message .now)) (a .flags) (a .clock) s (sym (place .before .store-flags .ensures) ∙ not-true _ (place .if1 .taken)))
 
 find-name-requires : tie.Need-find-name-requires
 find-name-requires c κs = search needs
@@ -125,7 +131,8 @@ returns-2 c =
     let a = entry₃ c .args in
     let s = stateOf (a .control) (a .table .now) (a .names .now) (a .committed .now) (a .staged .now) i h in
     at-open-held c .open-held .ensures (a .names .now) i h x
-    ∙ name-held (part (a .start) (a .len) (a .message .now)) (a .flags) (a .clock) s (sym (at-store-flags c .store-flags .ensures) ∙ not-false _ (at-if1 c .if1 .left)) (at-k₂ c .k .given .0 .0) (slot-in s (at-find-name₂ c .find-name .ensures) (at-k₂ c .k .given .1))
+    ∙ name-held (part (a .start) (a .len) (a .message .now)) (a .flags) (a .clock) s (sym (at-store-flags c .store-flags .ensures) ∙ not-false _ (at-if1 c .if1 .left))
+    (at-k₂ c .k .given .0 .0) (slot-in s (at-find-name₂ c .find-name .ensures) (at-k₂ c .k .given .1))
 
 enum-told : tie.Need-enum-told
 enum-told c = search needs
@@ -133,15 +140,21 @@ enum-told c = search needs
 writes-with-requires : tie.Need-writes-with-requires
 writes-with-requires c κs = search needs
 
+refused-requires-2 : tie.Need-refused-requires-2
+refused-requires-2 c κs = search needs
+
 same-length-5 : tie.Need-same-length-5
 same-length-5 c = search needs
 
 returns-3 : tie.Need-returns-3
 returns-3 c =
-    λ i h _.
-    let a = entry₄ c .args in
+    let place = c .before in
+    let a = entry₄ place .args in
+    λ i h x.
     let s = stateOf (a .control) (a .table .now) (a .names .now) (a .committed .now) (a .staged .now) i h in
-    name-absent (part (a .start) (a .len) (a .message .now)) (a .flags) (a .clock) s (sym (at-store-flags₂ c .store-flags .ensures) ∙ not-false _ (at-if1₂ c .if1 .left)) (slot-in s (at-find-name₃ c .find-name .ensures) (at-told c .enum-told .given .1)) (sym (c .before .writes-with .ensures) ∙ not-true _ (c .if2 .taken))
+    refused-leaves x (c .refused2 .ensures) (name-absent (part (a .start) (a .len) (a .message .now)) (a .flags) (a .clock) s
+    (sym (at-store-flags₂ place .store-flags .ensures) ∙ not-false _ (at-if1₂ place .if1 .left)) (slot-in s (at-find-name₃ place .find-name .ensures) (at-told place .enum-told .given .1))
+    (sym (place .before .writes-with .ensures) ∙ not-true _ (place .if2 .taken)))
 
 open-new-requires : tie.Need-open-new-requires
 open-new-requires c κs = let p = entry₅ c .pre in (p .0, (p .1 .0, (p .1 .1 .0, p .1 .1 .1 .0)))
@@ -158,13 +171,15 @@ returns-4 c =
     let a = entry₆ c .args in
     let s = stateOf (a .control) (a .table .now) (a .names .now) (a .committed .now) (a .staged .now) i h in
     at-open-new c .open-new .ensures (a .committed .now) (a .staged .now) i h x (entry₆ c .pre .1 .1 .1 .1 .1 .1)
-    ∙ name-new (part (a .start) (a .len) (a .message .now)) (a .flags) (a .clock) s (sym (at-store-flags₃ c .store-flags .ensures) ∙ not-false _ (at-if1₃ c .if1 .left)) (slot-in s (at-find-name₄ c .find-name .ensures) (at-enum-told c .enum-told .given .1)) (sym (at-if2 c .before .writes-with .ensures) ∙ not-false _ (at-if2 c .if2 .left))
+    ∙ name-new (part (a .start) (a .len) (a .message .now)) (a .flags) (a .clock) s (sym (at-store-flags₃ c .store-flags .ensures) ∙ not-false _ (at-if1₃ c .if1 .left))
+    (slot-in s (at-find-name₄ c .find-name .ensures) (at-enum-told c .enum-told .given .1)) (sym (at-if2 c .before .writes-with .ensures) ∙ not-false _ (at-if2 c .if2 .left))
 
 pub open-store-spec : {M : Type 1} → statement M
 open-store-spec =
     tie.close
     (tie.spec
     store-flags-requires
+    refused-requires
     returns
     find-name-requires
     enum-known-k
@@ -176,6 +191,7 @@ open-store-spec =
     returns-2
     enum-told
     writes-with-requires
+    refused-requires-2
     same-length-5
     returns-3
     open-new-requires

@@ -11,7 +11,7 @@ use Rattle.state.specs.State.{State, stateOf}
 use Rattle.state.specs.Parts.{Shape}
 use Rattle.rules.specs.Respond.{answered}
 use Rattle.response_types.specs.declared.Said.{Said}
-use Rattle.response_types.specs.declared.Said.the-variants.{Refused}
+use Rattle.response_types.specs.Laws.{refused-leaves}
 use Rattle.request_serve.specs.Serves.{Serves, plain, laying, asked-is}
 use Rattle.request_serve.proofs.Laws.{shape-of, lengths-fit, inside-of, write-rest}
 use Rattle.request_serve.proofs.serve.Statement.{statement}
@@ -29,7 +29,7 @@ entry c = c .before .before .before .before .before .before .before .before
 abbrev asked-enumerate : tie.After-enumerate-arg2 → tie.After-asked
 asked-enumerate c = c .before .before .before
 
-abbrev asked-open : tie.After-sweep-and-open-arg6 → tie.After-asked2
+abbrev asked-open : tie.After-open-arg6 → tie.After-asked2
 asked-open c = c .before .before .before .before .before .before .before
 
 abbrev asked-read : tie.After-read-arg4 → tie.After-asked3
@@ -57,8 +57,8 @@ abbrev asked-write-meta : tie.After-write-meta-arg → tie.After-asked10
 asked-write-meta c = c .before .before
 
 -- the call, from the end of its arm
-abbrev at-sweep-and-open : tie.After-slice-known14 → tie.After-sweep-and-open
-at-sweep-and-open c = c .before .before .before .before .before .before .before .before .before .before .before .before
+abbrev at-open : tie.After-slice-known14 → tie.After-open
+at-open c = c .before .before .before .before .before .before .before .before .before .before .before .before
 
 abbrev at-read : tie.After-slice-known16 → tie.After-read
 at-read c = c .before .before .before .before
@@ -106,8 +106,8 @@ enumerate-requires c κs =
 enum-known-asked-2 : tie.Need-enum-known-asked-2
 enum-known-asked-2 c = search needs
 
-sweep-and-open-requires : tie.Need-sweep-and-open-requires
-sweep-and-open-requires c κs =
+open-requires : tie.Need-open-requires
+open-requires c κs =
     let place = asked-open c in
     let start = entry (place .before .before) in
     (start .pre .0, inside start (place .asked2 .given .1))
@@ -212,6 +212,9 @@ write-meta-requires c κs = shape (entry (asked-write-meta c .before .before)) .
 enum-known-asked-11 : tie.Need-enum-known-asked-11
 enum-known-asked-11 c = search needs
 
+refused-requires : tie.Need-refused-requires
+refused-requires c κs = search needs
+
 returns : tie.Need-returns
 unfolding answered
 returns c =
@@ -259,10 +262,10 @@ same-length-8 c = search needs
 returns-3 : tie.Need-returns-3
 unfolding answered
 returns-3 c =
-    let call = at-sweep-and-open c in
+    let call = at-open c in
     let place = asked-open (call .before) in
     let start = entry (place .before .before) in
-    answers start (place .asked2 .given .1) (plain (call .sweep-and-open .result .said) _ _ (start .args .answer .now) (call .sweep-and-open .ensures))
+    answers start (place .asked2 .given .1) (plain (call .«open» .result .said) _ _ (start .args .answer .now) (call .«open» .ensures))
 
 same-length-9 : tie.Need-same-length-9
 same-length-9 c = search needs
@@ -423,9 +426,9 @@ returns-11 c =
 returns-12 : tie.Need-returns-12
 unfolding answered
 returns-12 c =
-    let place = c .before in
+    let place = c .before .before in
     let start = entry (place .before .before) in
-    answers start (place .asked11 .given .1) (plain (Refused _) (whole start) _ (start .args .answer .now) (λ (b : List ℕ). refl))
+    answers start (place .asked11 .given .1) (plain (c .refused .result .said) _ _ (start .args .answer .now) (λ (b : List ℕ). refused-leaves b (c .refused .ensures) refl))
 
 pub serve-spec : {M : Type 1} → statement M
 serve-spec =
@@ -436,7 +439,7 @@ serve-spec =
     enum-known-asked
     enumerate-requires
     enum-known-asked-2
-    sweep-and-open-requires
+    open-requires
     enum-known-asked-3
     cast-read
     read-requires
@@ -463,6 +466,7 @@ serve-spec =
     cast-write-meta
     write-meta-requires
     enum-known-asked-11
+    refused-requires
     returns
     same-length
     same-length-2
