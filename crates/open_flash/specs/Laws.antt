@@ -20,7 +20,7 @@ use Rattle.lookup.specs.Search.{free-row}
 use Rattle.open_steps.specs.Steps.{rowOpened}
 use Rattle.open_steps.specs.Laws.{opened-is}
 use Rattle.rules.specs.Opening.{openedFlash, flashListed}
-use Rattle.rules.specs.OpenWays.{openFlashListed, openFlashQuiet, openFlashFree}
+use Rattle.open_steps.specs.Ways.{openFlashListed, openFlashQuiet, openFlashFree}
 
 module _ (k : FlashKind) (flags t : ℕ) (s : State) where
   allowed : (x : Bool) → flashFlags flags ≡ x → cond x (openFlashListed (flashListed k (s .flashGroup .phase)) k t s) (refused invalid, s) ≡ openFlash k flags t s

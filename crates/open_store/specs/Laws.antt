@@ -21,7 +21,7 @@ use Rattle.open_steps.specs.Laws.{opened-is}
 use Rattle.state.specs.Words.{storeFlags, writesWith}
 use Rattle.rules.specs.Lookup.{freeRowIn, freeSlotIn, slotNamed}
 use Rattle.rules.specs.Opening.{newSlot, heldSlot}
-use Rattle.rules.specs.OpenWays.{openNew, openFree, openHeld, openNamed}
+use Rattle.open_steps.specs.Ways.{openNew, openFree, openHeld, openNamed}
 
 -- ---- a new name
 module _ (n : List ℕ) (flags t : ℕ) (s : State) where

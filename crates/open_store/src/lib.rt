@@ -13,7 +13,7 @@ ghost use Rattle.open_steps.specs.Steps.{FreeZero};
 ghost use Rattle.state.specs.declared.row.Wanted.the-variants.{OnBlob};
 ghost use Rattle.rules.specs.Session.{rowFound};
 ghost use Rattle.rules.specs.Lookup.{freeRowIn, freeSlotIn};
-ghost use Rattle.rules.specs.OpenWays.{openNew, openHeld};
+ghost use Rattle.open_steps.specs.Ways.{openNew, openHeld};
 use lookup::find_name;
 use lookup::find_row;
 use open_steps::new_slot;

@@ -8,7 +8,6 @@ pub mod Lookup
 pub mod Opening
 pub mod Open
 pub mod Named
-pub mod OpenWays
 pub mod Listing
 pub mod Respond
 pub mod Laws

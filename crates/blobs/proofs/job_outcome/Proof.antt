@@ -20,8 +20,8 @@ entry₂ c = c .before .before .before .before .before .before .before .before .
 abbrev in-else1 : tie.After-code-of → tie.Else1
 in-else1 c = c .before .before .before .before .before
 
-abbrev at-outcome : tie.After-code-of → tie.After-outcome
-at-outcome c = c .before .before .before
+abbrev at-end-job : tie.After-code-of → tie.After-end-job
+at-end-job c = c .before .before .before
 
 -- the state at entry
 abbrev whole : tie.Start → State
@@ -50,7 +50,7 @@ returns-2 c =
     let else1 = in-else1 c in
     let start = entry₂ else1 in
     outcome-taken (start .args .good) (whole start) (sym (else1 .before .sound .ensures) ∙ not-false _ (else1 .if1 .left)) _ _ _
-    (at-outcome c .end-job .ensures 0 (start .args .names .now) (start .args .committed .now) (start .args .staged .now) (start .args .image .now) (start .args .hash .now) [])
+    (at-end-job c .end-job .ensures 0 (start .args .names .now) (start .args .committed .now) (start .args .staged .now) (start .args .image .now) (start .args .hash .now) [])
     (c .code-of .ensures [])
 
 pub job-outcome-spec : {M : Type 1} → statement M

@@ -1,4 +1,4 @@
--- The parts of Open under names, for the theorems that go through them one by one; each is a part of `openStore` or `openFlash` as it stands there.
+-- The parts of `openStore` and `openFlash` that have code of their own, or that a proof of the code goes through; each stands there as it is here.
 use mathlib.Core.Bool.{Bool}
 use mathlib.Core.List.{List}
 use mathlib.Core.Option.{Option}
