@@ -6,3 +6,4 @@ pub mod Frame
 pub mod Cases
 pub mod Layout
 pub mod Inside
+pub mod NameForms
