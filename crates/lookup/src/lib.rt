@@ -72,7 +72,8 @@ fn same_name(names: &[u8], k: usize, message: &[u8], start: usize, len: usize) -
     let at = k * NAME_SIZE;
     let mut ok = true;
     for i in 0..NAME_SIZE {
-        ok = ok & (names[at + i] == padded_at(message, start, len, i));
+        let held = names[at + i];
+        ok = ok & (held == padded_at(message, start, len, i));
     }
     ok
 }

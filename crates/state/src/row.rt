@@ -1,6 +1,7 @@
 // Rows of the session table: four words each, read and written whole.
 ghost use mathlib.Core.Path.{_≡_};
-ghost use Prim.Native.Nat.{_*_, _<_};
+ghost use Prim.Native.Nat.{_+_, _*_, _<_};
+ghost use lib.ListN.{getD};
 ghost use lib.Dec.{eqb};
 ghost use Rattle.laws.specs.Ranges.{block};
 ghost use Rattle.protocol.specs.Names.{kindOf};
@@ -170,17 +171,24 @@ pub fn kind_of(blob: u32) -> FlashKind
     FlashKind::Cleanup
 }
 
+// Word j of row r.
+fn word_of(table: &[u32], r: usize, j: usize) -> u32
+    requires { ⌜ TableLent (now table) × ((r < rowCount) × (j < rowWords)) ⌝ }
+    ensures { λ x. ⌜ x ≡ getD (now (table .entry)) (r * rowWords + j) 0 ⌝ }
+{
+    table[r * ROW_WORDS + j]
+}
+
 // Row r of the table.
 pub fn read_row(table: &[u32], r: usize) -> Entry
     requires { ⌜ TableLent (now table) × (r < rowCount) ⌝ }
     ensures { λ e. ⌜ block rowWords r .get (now (table .entry)) ≡ wordsOf e ⌝ }
 {
-    let at = r * ROW_WORDS;
     Entry {
-        id: table[at],
-        blob: table[at + 1],
-        word: table[at + 2],
-        stamp: table[at + 3],
+        id: word_of(table, r, 0),
+        blob: word_of(table, r, 1),
+        word: word_of(table, r, 2),
+        stamp: word_of(table, r, 3),
     }
 }
 

@@ -36,11 +36,11 @@ mul-at c = search needs
 loop-holds : tie.Need-loop-holds Inv-loop μ-loop
 loop-holds c = (omega arith, all-start _)
 
-add-ok : tie.Need-add-ok Inv-loop μ-loop
-add-ok c = search needs
+add-held : tie.Need-add-held Inv-loop μ-loop
+add-held c = search needs
 
-shared-slice-read-ok : tie.Need-shared-slice-read-ok Inv-loop μ-loop
-shared-slice-read-ok c = search (needs, name-size)
+shared-slice-read-held : tie.Need-shared-slice-read-held Inv-loop μ-loop
+shared-slice-read-held c = search (needs, name-size)
 
 padded-at-requires : tie.Need-padded-at-requires Inv-loop μ-loop
 padded-at-requires c κs = search (needs, name-size)
@@ -79,8 +79,8 @@ same-name-spec =
     μ-loop
     mul-at
     loop-holds
-    add-ok
-    shared-slice-read-ok
+    add-held
+    shared-slice-read-held
     padded-at-requires
     add-i
     loop-less

@@ -1,68 +1,48 @@
--- `row::read_row`: four reads are the row.
+-- `row::read_row`: four words are the row.
+use mathlib.Core.Path.{_≡_, sym, _∙_, ap}
+use mathlib.Core.List.{[], _∷_}
+use Prim.Native.Nat.{ℕ, _+_, _*_}
 use native.Mathlib.Omega.{arith}
+use lib.ListN.{getD}
 use Rattle.state.proofs.Laws.{row-read}
-use Prim.Native.Nat.{_*_}
 use borrow.Author.Needs.{needs}
 use Rattle.state.proofs.row.read_row.Statement.{statement}
 use Rattle.state.proofs.row.read_row.Tie as tie
 
 -- the places that the answers read
-abbrev entry : tie.After-shared-slice-known4 → tie.Start
-entry c = c .before .before .before .before
+abbrev entry : tie.After-word-of4 → tie.Start
+entry c = c .before .before .before .before .before
 
-mul-at : tie.Need-mul-at
-mul-at c = search needs
+abbrev at-word-of : tie.After-word-of4 → tie.After-word-of
+at-word-of c = c .before .before .before
 
-mul-t4 : tie.Need-mul-t4
-mul-t4 c = search needs
+abbrev at-word-of2 : tie.After-word-of4 → tie.After-word-of2
+at-word-of2 c = c .before .before
 
-shared-slice-read-t6 : tie.Need-shared-slice-read-t6
-shared-slice-read-t6 c = search needs
+abbrev at-word-of3 : tie.After-word-of4 → tie.After-word-of3
+at-word-of3 c = c .before
 
-add-t7 : tie.Need-add-t7
-add-t7 c = search needs
+word-of-requires : tie.Need-word-of-requires
+word-of-requires c κs = search needs
 
-mul-t8 : tie.Need-mul-t8
-mul-t8 c = search needs
+word-of-requires-2 : tie.Need-word-of-requires-2
+word-of-requires-2 c κs = search needs
 
-shared-slice-read-t10 : tie.Need-shared-slice-read-t10
-shared-slice-read-t10 c = search needs
+word-of-requires-3 : tie.Need-word-of-requires-3
+word-of-requires-3 c κs = search needs
 
-add-t11 : tie.Need-add-t11
-add-t11 c = search needs
-
-mul-t12 : tie.Need-mul-t12
-mul-t12 c = search needs
-
-shared-slice-read-t14 : tie.Need-shared-slice-read-t14
-shared-slice-read-t14 c = search needs
-
-add-t15 : tie.Need-add-t15
-add-t15 c = search needs
-
-mul-t16 : tie.Need-mul-t16
-mul-t16 c = search needs
-
-shared-slice-read-t18 : tie.Need-shared-slice-read-t18
-shared-slice-read-t18 c = search needs
+word-of-requires-4 : tie.Need-word-of-requires-4
+word-of-requires-4 c κs = search needs
 
 returns : tie.Need-returns
-returns c = row-read (entry c .args .table .now) (entry c .args .r * 4) (omega arith)
+returns c =
+    let l = entry c .args .table .now in
+    let at = entry c .args .r * 4 in
+    let first : getD l (at + 0) 0 ≡ getD l at 0 = ap (λ (i : ℕ). getD l i 0) (omega arith) in
+    row-read l at (omega arith)
+    ∙ (λ i. sym (at-word-of c .word-of .ensures ∙ first) i ∷ sym (at-word-of2 c .word-of2 .ensures) i ∷ sym (at-word-of3 c .word-of3 .ensures) i ∷ sym (c .word-of4 .ensures) i ∷ [])
 
 pub read-row-spec : {M : Type 1} → statement M
 read-row-spec =
     tie.close
-    (tie.spec
-    mul-at
-    mul-t4
-    shared-slice-read-t6
-    add-t7
-    mul-t8
-    shared-slice-read-t10
-    add-t11
-    mul-t12
-    shared-slice-read-t14
-    add-t15
-    mul-t16
-    shared-slice-read-t18
-    returns)
+    (tie.spec word-of-requires word-of-requires-2 word-of-requires-3 word-of-requires-4 returns)
