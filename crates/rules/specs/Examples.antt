@@ -87,11 +87,11 @@ pub record Starred : Type 0 where
   pub crc-nothing : crc [] ≡ 0xFFFF
   -- Fresh count is 4 (rule 8.6)
   pub fresh-count : (t : ℕ) → respond t (header countCommand) fresh ≡ record { code = success; response = sent countCommand (bytesOf 4 4); state = fresh }
-  -- Reads of a session that sees 100 bytes: 10 of 58 near the end, 58 of 100, and none from the end on (rule 10.5)
+  -- Reads of a session that sees 100 bytes: 10 of 58 near the end, 58 of 100, and none from the end on, whatever count is requested (rule 10.5)
   pub read-90 : (t i : ℕ) (s : State) → Sees 100 i s → Shows t (askRead (ident i s) 90 58) i 90 10 s
   pub read-0 : (t i : ℕ) (s : State) → Sees 100 i s → Shows t (askRead (ident i s) 0 100) i 0 58 s
-  pub read-100 : (t i : ℕ) (s : State) → Sees 100 i s
-      → (respond t (askRead (ident i s) 100 58) s .code ≡ success) × (respond t (askRead (ident i s) 100 58) s .response ≡ 0xCF ∷ 0xC2 ∷ 0x00 ∷ 0x03 ∷ 0xFF ∷ 0xFF ∷ [])
+  pub read-100 : (t i count : ℕ) (s : State) → Sees 100 i s → count < thirtyTwoBits
+      → (respond t (askRead (ident i s) 100 count) s .code ≡ success) × (respond t (askRead (ident i s) 100 count) s .response ≡ 0xCF ∷ 0xC2 ∷ 0x00 ∷ 0x03 ∷ 0xFF ∷ 0xFF ∷ [])
   -- Writes of 52 bytes by a session that has 4,060: up to the capacity, one past it, and past the length (rule 11.6)
   pub write-4044 : (t i : ℕ) (bytes : List ℕ) (s : State) → Writes 4060 i s → length bytes ≡ 52 → respond t (askWrite (ident i s) 4044 bytes) s .code ≡ success
   pub write-4045 : (t i : ℕ) (bytes : List ℕ) (s : State) → Writes 4060 i s → length bytes ≡ 52 → respond t (askWrite (ident i s) 4045 bytes) s .code ≡ tooLong
@@ -116,7 +116,7 @@ store-reply n t i c s h =
     ap (λ (x : Reply × State). x .0) (session-row t i c s (sound-of-test s (h .is-sound)) (h .is-live)) ∙ ap (λ (p : Place). onPlace p i t c s .0) (place-slot (blob i s) (h .on-store))
 
 -- a message that asks q is answered as q is
-reply-is : (t : ℕ) (m : List ℕ) (s : State) (q : Request) (x : Reply) → isSound s ≡ true → decoded m ≡ q → answered q t m s .0 ≡ x
+pub reply-is : (t : ℕ) (m : List ℕ) (s : State) (q : Request) (x : Reply) → isSound s ≡ true → decoded m ≡ q → answered q t m s .0 ≡ x
     → (respond t m s .code ≡ framed (numberOf q) x .0) × (respond t m s .response ≡ framed (numberOf q) x .1)
 reply-is t m s q x h e f =
     let g : framed (numberOf (decoded m)) (answered (decoded m) t m s .0) ≡ framed (numberOf q) x = ap (λ (r : Request). framed (numberOf r) (answered r t m s .0)) e ∙ ap (framed (numberOf q)) f in (
@@ -167,7 +167,7 @@ unfolding answered onStore readStore
 read-reply offset count t i m s h =
     store-reply 100 t i (read offset count) s h ∙ ap (λ (x : ℕ). reply (part offset (readCount count offset x) (bytesSeen i s))) (h .sees)
 
-reply-frame : (sub : ℕ) (f : List ℕ) → (framed sub (reply f) .0 ≡ success) × (framed sub (reply f) .1 ≡ sent sub f)
+pub reply-frame : (sub : ℕ) (f : List ℕ) → (framed sub (reply f) .0 ≡ success) × (framed sub (reply f) .1 ≡ sent sub f)
 unfolding framed
 reply-frame sub f = (refl, refl)
 
@@ -205,11 +205,11 @@ unfolding stored
 stored-done [] t offset r b = refl
 stored-done (w ∷ ws) t offset r b = refl
 
-done-code : (sub : ℕ) → framed sub done .0 ≡ success
+pub done-code : (sub : ℕ) → framed sub done .0 ≡ success
 unfolding framed
 done-code sub = refl
 
-refused-code : (sub c : ℕ) → framed sub (refused c) .0 ≡ c
+pub refused-code : (sub c : ℕ) → framed sub (refused c) .0 ≡ c
 unfolding framed
 refused-code sub c = refl
 
@@ -349,7 +349,9 @@ starred = record {
   fresh-count = fresh-counts;
   read-90 = λ (t i : ℕ) (s : State) (h : Sees 100 i s). shows 90 58 t i s (omega arith) (omega arith) h;
   read-0 = λ (t i : ℕ) (s : State) (h : Sees 100 i s). shows 0 100 t i s (omega arith) (omega arith) h;
-  read-100 = λ (t i : ℕ) (s : State) (h : Sees 100 i s). let x = shows 100 58 t i s (omega arith) (omega arith) h in (x .accepted, x .bytes ∙ empty-frame);
+  read-100 = λ (t i count : ℕ) (s : State) (h : Sees 100 i s) (small : count < thirtyTwoBits).
+      let x = shows 100 count t i s (omega arith) small h in
+      let none-left : readCount count 100 100 ≡ 0 = omega arith in (x .accepted, x .bytes ∙ ap (λ (n : ℕ). sent readCommand (part 100 n (bytesSeen i s))) none-left ∙ empty-frame);
   write-4044 = at-4044;
   write-4045 = at-4045;
   write-4061 = at-4061;

@@ -2,38 +2,42 @@
 -- refuses all breaks `fresh-count`, and one that always says 00 breaks `write-4045` and `write-4061`. Assumes nothing.
 use mathlib.Core.Path.{_≡_, refl, sym, _∙_, ap, subst}
 use mathlib.Core.Logic.{_≢_}
-use mathlib.Core.Bool.{Bool, true, false, _&&_, true≢false}
+use mathlib.Core.Bool.{Bool, true, false, cond, _&&_, _||_, true≢false}
 use mathlib.Core.Option.{none, some}
 use mathlib.Core.List.{List, [], _∷_, _++_}
-use Prim.Native.Nat.{ℕ, suc, _+_, _/_, _%_, _≤_, _<_, max}
+use Prim.Native.Nat.{ℕ, suc, _+_, _*_, _/_, _%_, _≤_, _<_, max}
 use native.Mathlib.Omega.{arith}
 use native.Mathlib.Decide.{ℕ-discrete}
 use lib.Dec.{eqb}
 use lib.ListN.{length, getD, set, length-set}
 use lib.Seq.{getD-set-same, getD-set-other}
 use Rattle.laws.specs.All.{all}
+use Rattle.laws.specs.Bits.{bit}
 use Rattle.laws.specs.Bytes.{little, bytesOf, same, same-refl, padded}
 use Rattle.laws.specs.Find.{first-none, first-some}
 use Rattle.laws.specs.Ranges.{part, part-sets}
-use Rattle.protocol.specs.Numbers.{rowWords, slotCount, nameSize, slotSize, readMost, invalid, notSupported, imageSize, hashSize, countCommand}
-use Rattle.protocol.specs.Names.{base, kindOf}
+use Rattle.protocol.specs.Numbers.{rowCount, rowWords, slotCount, nameSize, slotSize, readMost, invalid, notSupported, imageSize, hashSize}
+use Rattle.protocol.specs.Numbers.{countCommand, notFound, untried, running, succeeded, failed, imageBlob, hashBlob, verifyBlob, updateBlob, cleanupBlob}
+use Rattle.protocol.specs.Names.{base, kindOf, noKind}
 use Rattle.protocol.specs.Frame.{Reply, refused, done, reply, statFields, header}
 use Rattle.protocol.specs.declared.FlashKind.{FlashKind}
 use Rattle.protocol.specs.declared.FlashKind.the-variants.{Image, Hash, Verify, Update, Cleanup}
+use Rattle.protocol.specs.declared.Blob.the-variants.{Flash, Base, Unknown}
 use Rattle.state.specs.declared.Phase.the-variants.{Uploading}
 use Rattle.state.specs.declared.row.Place.{Place}
 use Rattle.state.specs.declared.row.Place.the-variants.{AtSlot, AtFlash}
-use Rattle.state.specs.State.{State, Row, Slot, FlashBody, Body}
-use Rattle.state.specs.Words.{wordOf, stampOf, flagsIn, statusOf, wordWith, writes, writingIn, stamped, withClean, flags-with, blobOf}
+use Rattle.state.specs.State.{State, Row, Slot, FlashBody, Body, placeOf, inRow, inBody}
+use Rattle.state.specs.Parts.{FitsRow, row-view-fits, row-put}
+use Rattle.state.specs.Words.{wordOf, stampOf, flagsIn, statusOf, wordWith, writes, writingIn, stamped, withClean, flags-with, blobOf, blob, Live, statusIn, cleanIn, withStatus}
 use Rattle.state.specs.Soundness.{slotAt, isSound}
 use Rattle.rules.specs.Store.{readCount, readStore, stored, writeStore, onStore, seenLength, withStaged, seenBytes, commitWriting, commitStore}
 use Rattle.rules.specs.Command.{Command, read, write, commit, stat, close, writeMeta, endJob, Out, refuse, stateBits, bytesAfter, lengthAfter, commitFits}
-use Rattle.rules.specs.Session.{onPart}
+use Rattle.rules.specs.Session.{onPart, onRow}
 use Rattle.rules.specs.Open.{openFlash}
-use Rattle.rules.specs.Laws.{placed-has}
+use Rattle.rules.specs.Laws.{placed-has, by-own-part, other-rows, table-after, stamped-status, status-set}
 use Rattle.rules.specs.Messages.{thirtyTwoBits, four-bytes, sent}
 use Rattle.rules.specs.Situations.{writer, writer-slot, other-slot}
-use Rattle.rules.specs.Flash.{writeFlash, startable, verifyJob, updateJob, commitKind, commitFlash, onFlash}
+use Rattle.rules.specs.Flash.{writeFlash, startable, verifyJob, updateJob, commitKind, commitFlash, onFlash, flashLength}
 use Rattle.rules.specs.Examples.{count-answer}
 use Rattle.rules.specs.Counting.{flashCount, count-is}
 use Rattle.rules.specs.Respond.{Effect, respond}
@@ -41,6 +45,7 @@ use Rattle.state.specs.Agree.{sound-of-test}
 use Rattle.rules.specs.Lookup.{slotNamed, freshId, after}
 use Rattle.rules.specs.Opening.{opened, openedFlash}
 use Rattle.rules.specs.OpenLaws.{open-flash-has}
+use Rattle.rules.specs.Named.{deleteBlob}
 use lib.Count.{ones}
 
 -- ---- one that stores nothing, and one that stores only what the first Write has
@@ -273,3 +278,182 @@ module _ (t : ℕ) (r : Row) (four : length (r .words) ≡ rowWords) where
   pub own-stamp : (p : Place) (c : Command) (b : Body p) → Lasting c → Lifted t r (onPart p t c r b)
   own-stamp (AtSlot k) c b l = store-lifts b c l
   own-stamp AtFlash c b l = flash-lifts b (kindOf (blobOf r)) c l
+
+-- SessionStat lifts the stamp, wherever its session is
+stat-row : (p : Place) (t : ℕ) (r : Row) (b : Body p) → onPart p t stat r b .1 .0 ≡ stamped t r
+unfolding onStore onFlash
+stat-row (AtSlot k) t r b = refl
+stat-row AtFlash t r b = refl
+
+stamp-after : (i t : ℕ) (s : State) → i < rowCount → length (s .sessions .table) ≡ rowCount * rowWords → FitsRow (inRow i .get s) → stampOf (inRow i .get (onRow i t stat s .1)) ≡ max (stampOf (inRow i .get s)) t
+stamp-after i t s low long fits =
+    let p = placeOf (blob i s) in
+    let o = onPart p t stat (inRow i .get s) (inBody p .get s) .1 in
+    let e : o .0 ≡ stamped t (inRow i .get s) = stat-row p t (inRow i .get s) (inBody p .get s) in
+    let still : FitsRow (o .0) = subst FitsRow (sym e) (record { four = length-set (inRow i .get s .words) 3 (max (stampOf (inRow i .get s)) t) ∙ fits .four; flag = fits .flag }) in
+    ap stampOf (ap (λ (x : State). inRow i .get x) (by-own-part i t stat s) ∙ row-put i p o s low long still ∙ e) ∙ lifted t (inRow i .get s) (fits .four)
+
+-- WHATEVER ANOTHER SESSION ASKED FOR BEFORE, AND AT WHATEVER CLOCK, A SESSIONSTAT LIFTS ITS SESSION'S STAMP FROM WHAT IT WAS TO ITS OWN CLOCK: with one latest time for all, the order of two
+-- sessions' requests would show in the stamps wherever the clock runs backward (rule 21.4)
+pub own-clock : (i j t u : ℕ) (c : Command) (s : State) → isSound s ≡ true → Live j s → i ≢ j → stampOf (inRow j .get (onRow j u stat (onRow i t c s .1) .1)) ≡ max (stampOf (inRow j .get s)) u
+own-clock i j t u c s h l n =
+    let shape = sound-of-test s h .shape in
+    let same-row = other-rows i j t c s n in
+    stamp-after j u (onRow i t c s .1) (l .0) (table-after i t c s ∙ shape .table-size) (subst FitsRow (sym same-row) (row-view-fits j s (l .0) shape)) ∙ ap (λ (r : Row). max (stampOf r) u) same-row
+
+-- ---- one that does not show what a session's job and clean mark are
+-- the state x of a session with these flags, job status and clean mark: READ, WRITE, a job that runs, committed or clean, a job that failed, and no bit above (rule 15.4)
+pub record Bits (flags status clean x : ℕ) : Type 0 where
+  pub read-bit : bit 0 x ≡ bit 0 flags
+  pub write-bit : bit 1 x ≡ bit 1 flags
+  pub running-bit : bit 2 x ≡ cond (eqb status running) 1 0
+  pub committed-bit : bit 3 x ≡ cond (eqb status succeeded || eqb clean 1) 1 0
+  pub error-bit : bit 4 x ≡ cond (eqb status failed) 1 0
+  pub five-bits : x < 32
+
+-- a bit that is set or not
+set-or-not : (y : Bool) → cond y 1 0 < 2
+set-or-not true = omega arith
+set-or-not false = omega arith
+
+weight-4 : (y : Bool) → cond y 4 0 ≡ 4 * cond y 1 0
+weight-4 true = refl
+weight-4 false = refl
+
+weight-8 : (y : Bool) → cond y 8 0 ≡ 8 * cond y 1 0
+weight-8 true = refl
+weight-8 false = refl
+
+weight-16 : (y : Bool) → cond y 16 0 ≡ 16 * cond y 1 0
+weight-16 true = refl
+weight-16 false = refl
+
+-- a number made of two bits of f and three more
+module _ (f p q r : ℕ) (hp : p < 2) (hq : q < 2) (hr : r < 2) where
+  abbrev sum : ℕ
+  sum = f % 4 + (4 * p + (8 * q + 16 * r))
+
+  sum-0 : bit 0 sum ≡ bit 0 f
+  sum-0 = omega arith
+
+  sum-1 : bit 1 sum ≡ bit 1 f
+  sum-1 = omega arith
+
+  sum-2 : bit 2 sum ≡ p
+  sum-2 = omega arith
+
+  sum-3 : bit 3 sum ≡ q
+  sum-3 = omega arith
+
+  sum-4 : bit 4 sum ≡ r
+  sum-4 = omega arith
+
+  sum-small : sum < 32
+  sum-small = omega arith
+
+-- EVERY SESSION SHOWS THESE BITS, whatever its third word w (rule 15.4)
+pub state-bits : (w : ℕ) → Bits (flagsIn w) (statusIn w) (cleanIn w) (stateBits w)
+unfolding stateBits
+state-bits w = subst (Bits f (statusIn w) (cleanIn w)) (sym made) (record {
+  read-bit = sum-0 f p q r hp hq hr;
+  write-bit = sum-1 f p q r hp hq hr;
+  running-bit = sum-2 f p q r hp hq hr;
+  committed-bit = sum-3 f p q r hp hq hr;
+  error-bit = sum-4 f p q r hp hq hr;
+  five-bits = sum-small f p q r hp hq hr;
+})
+  where
+    f : ℕ
+    f = flagsIn w
+
+    runs : Bool
+    runs = eqb (statusIn w) running
+
+    stands : Bool
+    stands = eqb (statusIn w) succeeded || eqb (cleanIn w) 1
+
+    broke : Bool
+    broke = eqb (statusIn w) failed
+
+    p : ℕ
+    p = cond runs 1 0
+
+    q : ℕ
+    q = cond stands 1 0
+
+    r : ℕ
+    r = cond broke 1 0
+
+    hp : p < 2
+    hp = set-or-not runs
+
+    hq : q < 2
+    hq = set-or-not stands
+
+    hr : r < 2
+    hr = set-or-not broke
+
+    made : stateBits w ≡ sum f p q r hp hq hr
+    made = λ i. f % 4 + (weight-4 runs i + (weight-8 stands i + weight-16 broke i))
+
+-- ---- one whose failed job cannot be tried again
+-- the job status after a Commit: the job starts where none was tried, and where the last one failed; one that runs goes on, and one that succeeded stays (rules 12.4 and 12.5)
+abbrev pub afterCommit : (status : ℕ) → ℕ
+afterCommit st = cond (eqb st untried) running (cond (eqb st failed) running st)
+
+-- the flash names that have a job
+abbrev pub HasJob : FlashKind → Type 0
+HasJob Image = ⊥
+HasJob Hash = ⊥
+HasJob Verify = Unit {0}
+HasJob Update = Unit {0}
+HasJob Cleanup = ⊥
+
+-- what a Commit that was accepted left
+abbrev pub Tried : Row → Out FlashBody → Type 0
+Tried r o = (o .0 ≡ done) × (statusOf (o .1 .0) ≡ afterCommit (statusOf r))
+
+module _ (t : ℕ) (r : Row) (b : FlashBody) (four : length (r .words) ≡ rowWords) where
+  now-runs : statusOf (stamped t (withStatus running r)) ≡ running
+  now-runs = stamped-status t (withStatus running r) ∙ status-set running r four (omega arith)
+
+  -- x: none was tried; y: the last one failed
+  by-status : (x y : Bool) (job : Bool → Out FlashBody) → (job true .0 ≡ done) × (statusOf (job true .1 .0) ≡ running) → (job false .0 ≡ done) × (statusOf (job false .1 .0) ≡ statusOf r)
+      → (job (x || y) .0 ≡ done) × (statusOf (job (x || y) .1 .0) ≡ cond x running (cond y running (statusOf r)))
+  by-status true y job new old = new
+  by-status false true job new old = new
+  by-status false false job new old = old
+
+  -- A COMMIT ON VERIFY OR UPDATE IS ACCEPTED, AND STARTS A JOB EXACTLY WHERE NONE WAS TRIED OR THE LAST ONE FAILED (rules 12.4 and 12.5)
+  pub job-starts : (k : FlashKind) → HasJob k → Tried r (onFlash k t (commit 0 0) r b)
+  unfolding onFlash commitFlash commitKind verifyJob updateJob
+  job-starts Image h = absurd h
+  job-starts Hash h = absurd h
+  job-starts Verify h = by-status (eqb (statusOf r) untried) (eqb (statusOf r) failed) (λ (y : Bool). verifyJob y t r b) (refl, now-runs) (refl, stamped-status t r)
+  job-starts Update h = by-status (eqb (statusOf r) untried) (eqb (statusOf r) failed) (λ (y : Bool). updateJob y t r b) (refl, now-runs) (refl, stamped-status t r)
+  job-starts Cleanup h = absurd h
+
+-- ---- one that answers a Delete by another kind of name
+-- A DELETE OF AN UNKNOWN NAME IS CB, OF THE BASE AND OF A FLASH NAME D5 (rule 14.1)
+pub delete-unheld : (m : List ℕ) (s : State) → (deleteBlob Unknown m s .0 ≡ refused notFound) × (deleteBlob Base m s .0 ≡ refused notSupported) × ((k : FlashKind) → deleteBlob (Flash k) m s .0 ≡ refused notSupported)
+unfolding deleteBlob
+delete-unheld m s = (refl, refl, λ (k : FlashKind). refl)
+
+-- ---- one that invents the size of a flash name
+-- the length of the image, of the hash, and 0 of the other flash names (rule 15.5)
+abbrev pub flashSize : (blob : ℕ) → FlashBody → ℕ
+flashSize b f = cond (eqb b imageBlob) (f .imageLen) (cond (eqb b hashBlob) (f .hashLen) 0)
+
+kind-length : (a b c d e : Bool) (f : FlashBody) → flashLength (cond a Image (cond b Hash (cond c Verify (cond d Update (cond e Cleanup noKind))))) f ≡ cond a (f .imageLen) (cond b (f .hashLen) 0)
+unfolding flashLength
+kind-length true b c d e f = refl
+kind-length false true c d e f = refl
+kind-length false false true d e f = refl
+kind-length false false false true e f = refl
+kind-length false false false false true f = refl
+kind-length false false false false false f = refl
+
+-- EVERY BLOB NUMBER OF THE FLASH HAS THIS SIZE (rule 15.5)
+pub flash-length : (b : ℕ) (f : FlashBody) → flashLength (kindOf b) f ≡ flashSize b f
+unfolding kindOf
+flash-length b f = kind-length (eqb b imageBlob) (eqb b hashBlob) (eqb b verifyBlob) (eqb b updateBlob) (eqb b cleanupBlob) f

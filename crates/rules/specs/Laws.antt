@@ -3,10 +3,11 @@ use mathlib.Core.Path.{_≡_, refl, _∙_, ap}
 use mathlib.Core.Bool.{Bool, true, false, cond}
 use mathlib.Core.List.{List}
 use mathlib.Core.Option.{Option, none, some}
-use Prim.Native.Nat.{ℕ, _+_, _≤_, _<_}
+use Prim.Native.Nat.{ℕ, _+_, _≤_, _<_, max}
+use native.Mathlib.Omega.{arith}
 use lib.Dec.{leb}
 use borrow.Author.Tests.{leb-true, le-leb, lt-leb}
-use Rattle.protocol.specs.Numbers.{tooLong, outOfRange}
+use Rattle.protocol.specs.Numbers.{rowWords, tooLong, outOfRange}
 use Rattle.protocol.specs.Decode.{decoded, numberOf}
 use Rattle.protocol.specs.Frame.{framed}
 use Rattle.state.specs.State.{State, Row, inRow, placeOf, inBody, cell}
@@ -17,9 +18,10 @@ use Rattle.state.specs.declared.row.Wanted.the-variants.{OnFlash}
 use Rattle.rules.specs.Session.{onSession, onRow, onPart}
 use Rattle.rules.specs.Respond.{effectOf, unsound, answered, respond, silent, jobOutcome}
 use mathlib.Core.Logic.{_≢_}
-use Rattle.state.specs.Words.{blob}
+use Rattle.state.specs.Words.{blob, wordOf, stampOf, flagsIn, statusIn, statusOf, cleanOf, wordWith, stamped, withStatus, status-with}
 use Rattle.rules.specs.Checks.{someOr, noneOr, whether}
 use lib.ListN.{length}
+use lib.Seq.{getD-set-other, getD-set-same}
 
 -- a message in a sound state
 pub respond-is : (t : ℕ) (m : List ℕ) (s : State) → isSound s ≡ true → respond t m s ≡ effectOf (framed (numberOf (decoded m)) (answered (decoded m) t m s .0)) (answered (decoded m) t m s .1)
@@ -96,3 +98,14 @@ other-rows i q t c s n =
 pub table-after : (i t : ℕ) (c : Command) (s : State) → length (onRow i t c s .1 .sessions .table) ≡ length (s .sessions .table)
 table-after i t c s =
     ap (λ (y : State). length (y .sessions .table)) (by-own-part i t c s) ∙ table-kept i (placeOf (blob i s)) (onPart (placeOf (blob i s)) t c (inRow i .get s) (inBody (placeOf (blob i s)) .get s) .1) s
+
+-- ---- a row's job status
+-- the stamp is not part of it
+pub stamped-status : (t : ℕ) (r : Row) → statusOf (stamped t r) ≡ statusOf r
+stamped-status t r = ap statusIn (getD-set-other (r .words) 3 2 (max (stampOf r) t) 0 (omega arith))
+
+-- the status that was set
+pub status-set : (v : ℕ) (r : Row) → length (r .words) ≡ rowWords → v < 4 → statusOf (withStatus v r) ≡ v
+status-set v r four h =
+    ap statusIn (getD-set-same (r .words) 2 (wordWith (flagsIn (wordOf r)) v (cleanOf r)) 0 (omega arith))
+    ∙ status-with (flagsIn (wordOf r)) v (cleanOf r) (omega arith) h (omega arith)

@@ -21,3 +21,6 @@ pub mod Sweeping
 pub mod Examples
 pub mod Counting
 pub mod Excluded
+pub mod Committed
+pub mod Effects
+pub mod Places

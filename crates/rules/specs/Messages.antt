@@ -75,7 +75,7 @@ unfolding crcFrom
 crc-small l = fold-small l start (omega arith)
 
 -- a number that was sent in two bytes
-two-bytes : (x : ℕ) → x < sixteenBits → x % 256 + 256 * (x / 256 % 256 + 256 * 0) ≡ x
+pub two-bytes : (x : ℕ) → x < sixteenBits → x % 256 + 256 * (x / 256 % 256 + 256 * 0) ≡ x
 two-bytes x h = omega arith
 
 -- a number that was sent in four bytes

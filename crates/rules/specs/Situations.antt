@@ -9,22 +9,22 @@ use lib.ListN.{replicate, length-replicate, length}
 use Rattle.laws.specs.All.{all}
 use Rattle.laws.specs.Bits.{bit, bit-zero}
 use Rattle.laws.specs.Bytes.{same, firstZero, padded, padded-length, same-false}
-use Rattle.protocol.specs.Numbers.{slotCount, nameSize, slotSize, readWrite, rowWords, imageSize, hashSize, writeOnly, imageBlob}
+use Rattle.protocol.specs.Numbers.{slotCount, nameSize, slotSize, readWrite, rowWords, imageSize, hashSize, writeOnly, running, verifyBlob}
 use Rattle.protocol.specs.Names.{base, alnum, storeName, storeField, kindOf}
 use Rattle.state.specs.declared.row.Place.{Place}
 use Rattle.state.specs.declared.row.Place.the-variants.{AtSlot, AtFlash}
 use Rattle.state.specs.State.{State, Row, Slot, inRow, cell, FlashBody, Body, placeOf}
 use Rattle.state.specs.Parts.{FitsSlot, cell-get-put, cell-row-other, cell-body-other, Separate, FitsBody, row-put}
-use Rattle.state.specs.Words.{Live, fresh, idOf, blobOf, ident, store-writes}
+use Rattle.state.specs.Words.{Live, fresh, idOf, blobOf, ident, wordWith, store-writes}
 use Rattle.state.specs.Soundness.{slotAt, isSound}
 use Rattle.state.specs.Facts.{StoreSession, Sound, PhaseOk, FlashSession, Session}
-use Rattle.state.specs.Agree.{test-of-sound}
+use Rattle.state.specs.Agree.{test-of-sound, not-idle-is}
 use Rattle.state.specs.Fresh.{fresh-good}
 use Rattle.rules.specs.Store.{withStaged}
 use Rattle.rules.specs.Change.{added-sound, NewName}
 use native.Mathlib.Decide.{ℕ-discrete}
 use Rattle.protocol.specs.declared.FlashKind.{FlashKind}
-use Rattle.protocol.specs.declared.FlashKind.the-variants.{Image}
+use Rattle.protocol.specs.declared.FlashKind.the-variants.{Verify}
 use Rattle.state.specs.declared.Phase.the-variants.{Idle, Uploading}
 use Rattle.rules.specs.Opening.{newRow, newSlot}
 
@@ -66,15 +66,18 @@ pub name-b : StoreName (scanName letterB)
 unfolding storeField storeName same all alnum base padded firstZero nameSize
 name-b = refl
 
-no-session : (q : ℕ) → Live q fresh → ⊥
+-- the fresh state has no session,
+pub no-session : (q : ℕ) → Live q fresh → ⊥
 unfolding fresh
 no-session q l = let z : bit q 0 ≡ 1 = l .1 in let b = bit-zero q in omega arith
 
-slot-free : (k : ℕ) → slotAt k fresh .held ≡ 0
+-- no slot in use
+pub slot-free : (k : ℕ) → slotAt k fresh .held ≡ 0
 unfolding fresh
 slot-free k = bit-zero k
 
-row-free : (r : ℕ) → inRow r .get fresh .used ≡ 0
+-- and no row
+pub row-free : (r : ℕ) → inRow r .get fresh .used ≡ 0
 unfolding fresh
 row-free r = bit-zero r
 
@@ -194,37 +197,37 @@ two-good n h =
     fresh-name l u (yes e) z = names-apart (z ∙ ap (λ (x : ℕ). slotAt x (writer (scanName letterA) n) .name) e ∙ ap (λ (b : Slot). b .name) (writer-slot (scanName letterA) n))
     fresh-name l u (no m) z = let q = other-slot (scanName letterA) n l m in omega arith
 
--- a store session on `/scan/a` with n bytes, and the flash session on the image
-abbrev pub imageRow : Row
-imageRow = newRow 1 imageBlob writeOnly 0 100
+-- the row of a session on verify with identifier 1: the status of its job, its stamp
+abbrev pub verifyRow : (status stamp : ℕ) → Row
+verifyRow status stamp = record { words = 1 ∷ verifyBlob ∷ wordWith writeOnly status 0 ∷ stamp ∷ []; used = 1 }
 
--- the flash with an image just opened
+-- the flash with an image to verify, all of it zero
 abbrev pub newImage : FlashBody
 newImage = record { phase = Uploading; image = replicate imageSize 0; hash = replicate hashSize 0; imageLen = 0; hashLen = 0 }
 
--- the two sessions
-unfoldable pub writerAndImage : ℕ → State
-writerAndImage n = cell 1 AtFlash .put (imageRow, newImage) (writer (scanName letterA) n)
+-- a store session on `/scan/a` with n bytes, and the flash session on verify, whose job runs
+unfoldable pub writerAndVerify : ℕ → State
+writerAndVerify n = cell 1 AtFlash .put (verifyRow running 100, newImage) (writer (scanName letterA) n)
 
-image-kind : kindOf imageBlob ≡ Image
+verify-kind : kindOf verifyBlob ≡ Verify
 unfolding kindOf
-image-kind = refl
+verify-kind = refl
 
-image-session : FlashSession imageRow newImage
-image-session = record {
+verify-session : FlashSession (verifyRow running 100) newImage
+verify-session = record {
   id-small = omega arith;
   is-flash = omega arith;
   a-kind = omega arith;
   flags = refl;
   rest-zero = omega arith;
-  phased = subst (λ (k : FlashKind). PhaseOk k 0 Uploading) (sym image-kind) (refl, refl);
+  phased = subst (λ (k : FlashKind). PhaseOk k running Uploading) (sym verify-kind) (not-idle-is Uploading refl, λ (z : running ≢ 0). refl);
   lengths = record { image-fits = omega arith; hash-fits = omega arith; idle-image = λ (e : Uploading ≡ Idle). refl; idle-hash = λ (e : Uploading ≡ Idle). refl };
 }
 
 -- the facts of soundness hold
-pub image-good : (n : ℕ) → n ≤ slotSize → Sound (writerAndImage n)
-unfolding writerAndImage
-image-good n h = second-good n h AtFlash imageRow newImage refl refl refl tt (length-replicate {A = ℕ} imageSize 0, length-replicate {A = ℕ} hashSize 0) image-session (omega arith) tt
+pub verify-good : (n : ℕ) → n ≤ slotSize → Sound (writerAndVerify n)
+unfolding writerAndVerify
+verify-good n h = second-good n h AtFlash (verifyRow running 100) newImage refl refl refl tt (length-replicate {A = ℕ} imageSize 0, length-replicate {A = ℕ} hashSize 0) verify-session (omega arith) tt
 
 -- the two rows and the first slot
 pub two-first : (n : ℕ) → inRow 0 .get (twoWriters n) ≡ writingRow 0
@@ -242,16 +245,16 @@ unfolding twoWriters
 two-slot n = cell-body-other 1 (AtSlot 1) (AtSlot 0) (writingRow 1, writtenSlot (scanName letterB) n) (writer (scanName letterA) n) (omega arith) ∙ writer-slot (scanName letterA) n
 
 -- the first row
-pub image-first : (n : ℕ) → inRow 0 .get (writerAndImage n) ≡ writingRow 0
-unfolding writerAndImage
-image-first n = cell-row-other 1 0 AtFlash (imageRow, newImage) (writer (scanName letterA) n) (omega arith) ∙ writer-row (scanName letterA) n
+pub verify-first : (n : ℕ) → inRow 0 .get (writerAndVerify n) ≡ writingRow 0
+unfolding writerAndVerify
+verify-first n = cell-row-other 1 0 AtFlash (verifyRow running 100, newImage) (writer (scanName letterA) n) (omega arith) ∙ writer-row (scanName letterA) n
 
 -- the second row
-pub image-second : (n : ℕ) → n ≤ slotSize → inRow 1 .get (writerAndImage n) ≡ imageRow
-unfolding writerAndImage
-image-second n h = row-put 1 AtFlash (imageRow, newImage) (writer (scanName letterA) n) (omega arith) (writer-good (scanName letterA) n name-a h .shape .table-size) (record { four = refl; flag = omega arith })
+pub verify-second : (n : ℕ) → n ≤ slotSize → inRow 1 .get (writerAndVerify n) ≡ verifyRow running 100
+unfolding writerAndVerify
+verify-second n h = row-put 1 AtFlash (verifyRow running 100, newImage) (writer (scanName letterA) n) (omega arith) (writer-good (scanName letterA) n name-a h .shape .table-size) (record { four = refl; flag = omega arith })
 
 -- the first slot
-pub image-slot : (n : ℕ) → slotAt 0 (writerAndImage n) ≡ writtenSlot (scanName letterA) n
-unfolding writerAndImage
-image-slot n = cell-body-other 1 AtFlash (AtSlot 0) (imageRow, newImage) (writer (scanName letterA) n) tt ∙ writer-slot (scanName letterA) n
+pub verify-slot : (n : ℕ) → slotAt 0 (writerAndVerify n) ≡ writtenSlot (scanName letterA) n
+unfolding writerAndVerify
+verify-slot n = cell-body-other 1 AtFlash (AtSlot 0) (verifyRow running 100, newImage) (writer (scanName letterA) n) tt ∙ writer-slot (scanName letterA) n
