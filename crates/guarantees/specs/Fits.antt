@@ -44,12 +44,13 @@ use Rattle.rules.specs.Named.{deleteBlob, statKind, statBlob, deleteStore, stat
 use Rattle.rules.specs.OpenLaws.{open-store-has, open-flash-has}
 
 -- the fields of a reply are at most as long as Read's
-abbrev Short : Reply → Type 0
+abbrev pub Short : Reply → Type 0
 Short (refused code) = Unit {0}
 Short done = Unit {0}
 Short (reply f) = length f ≤ readMost
 
-bytes-long : (n x : ℕ) → length (bytesOf n x) ≡ n
+-- a number sent in n bytes has n of them
+pub bytes-long : (n x : ℕ) → length (bytesOf n x) ≡ n
 unfolding bytesOf
 bytes-long zero x = refl
 bytes-long (suc n) x = ap suc (bytes-long n _)
@@ -273,7 +274,8 @@ at-short (n ∷ ns) (suc i) h = at-short ns i (h .1)
 short-enumerated : (i : ℕ) (s : State) → Short (enumerated i s)
 short-enumerated i s = cond-has Short (ltb i (count s)) (reply (getD (listed s) i [] ++ (0 ∷ []))) (refused outOfRange) (rw length-append (let h = at-short (listed s) i (names-listed s) in let e = name-bound in omega arith)) tt
 
-short-answered : (q : Request) (t : ℕ) (m : List ℕ) (s : State) → Short (answered q t m s .0)
+-- the reply to every request is short
+pub short-answered : (q : Request) (t : ℕ) (m : List ℕ) (s : State) → Short (answered q t m s .0)
 unfolding answered
 short-answered Count t m s = rw bytes-long (omega arith)
 short-answered (Enumerate index) t m s = short-enumerated index s

@@ -1,7 +1,7 @@
--- The premise of the flash promise is met: a history from the fresh state, in messages, in which an update job starts. Assumes nothing.
+-- The premise of the flash promise is met: a history from the fresh state, in messages that are all accepted, in which an update job starts. Assumes nothing.
 use mathlib.Core.Path.{_≡_, refl, sym, _∙_, ap}
-use mathlib.Core.Bool.{Bool, true, not, _&&_}
-use mathlib.Core.List.{List, [], _∷_}
+use mathlib.Core.Bool.{true, not, _&&_}
+use mathlib.Core.List.{List, [], _∷_, _++_}
 use Prim.Native.Nat.{ℕ, _*_}
 use native.Mathlib.Omega.{arith}
 use lib.Dec.{eqb}
@@ -9,14 +9,15 @@ use lib.ListN.{replicate}
 use Rattle.laws.specs.All.{all}
 use Rattle.laws.specs.Bytes.{little, bytesOf, same, firstZero}
 use Rattle.laws.specs.Find.{first}
+use Rattle.laws.specs.Merge.{alone}
 use Rattle.crc.specs.Crc.{shift, shifts, byteStep, crcFrom}
-use Rattle.protocol.specs.Numbers.{rowCount, rowWords, imageSize, hashSize, imageBlob, verifyBlob, updateBlob, writeOnly, untried, running, succeeded}
+use Rattle.protocol.specs.Numbers.{success, rowCount, rowWords, imageSize, hashSize, imageBlob, verifyBlob, updateBlob, writeOnly, untried, running, succeeded}
 use Rattle.protocol.specs.Names.{base, flashFolder, flashWord, flashName, nameForm, blobNamed, storeName, kindOf}
 use Rattle.protocol.specs.Decode.{decoded, asked, bodyFits, crcFits, withName}
+use Rattle.protocol.specs.Frame.{done, reply}
 use Rattle.protocol.specs.declared.FlashKind.{FlashKind}
 use Rattle.protocol.specs.declared.FlashKind.the-variants.{Image, Verify, Update, Hash, Cleanup}
 use Rattle.protocol.specs.declared.Blob.the-variants.{Flash}
-use Rattle.protocol.specs.declared.Request.{Request}
 use Rattle.protocol.specs.declared.Request.the-variants.{Open, Commit, Close}
 use Rattle.state.specs.declared.Phase.{Phase}
 use Rattle.state.specs.declared.Phase.the-variants.{Uploading, Verified}
@@ -30,11 +31,11 @@ use Rattle.state.specs.declared.row.Wanted.the-variants.{OnFlash}
 use Rattle.rules.specs.Session.{onSession, rowFound}
 use Rattle.rules.specs.Sweep.{swept}
 use Rattle.rules.specs.Open.{openFlash, openBlob}
-use Rattle.rules.specs.Respond.{Effect, answered}
-use Rattle.rules.specs.Laws.{respond-is, job-is}
+use Rattle.rules.specs.Respond.{answered}
 use Rattle.rules.specs.Messages.{askOpen, askCommit, askClose, commit-decoded, close-decoded}
-use Rattle.guarantees.specs.Merging.{Event, message, jobEnded}
-use Rattle.guarantees.specs.FlashPromise.{next, run, jobState, startsUpdate, next-sound, run-sound}
+use Rattle.guarantees.specs.Merging.{Event, message, jobEnded, step}
+use Rattle.guarantees.specs.FlashPromise.{run, jobState, startsUpdate, run-sound}
+use Rattle.guarantees.specs.Steps.{codes, Goes, by-message, by-outcome, ends, on, then}
 use Rattle.rules.specs.Lookup.{freeRowIn, freshFrom}
 use Rattle.rules.specs.Opening.{opened, flashListed, openedFlash}
 
@@ -76,7 +77,7 @@ abbrev pub commitUpdate : Event
 commitUpdate = message 7 (askCommit 2)
 
 -- ---- the states on the way: the table and the mask of rows, the phase, the next identifier
-abbrev stage : List ℕ → ℕ → Phase → ℕ → State
+abbrev pub stage : List ℕ → ℕ → Phase → ℕ → State
 stage table rows phase id = record {
   sessions = record { table = table; rows = rows };
   store = fresh .store;
@@ -86,16 +87,16 @@ stage table rows phase id = record {
 }
 
 -- no row used, and row 0 used
-abbrev noSession : Phase → ℕ → State
+abbrev pub noSession : Phase → ℕ → State
 noSession phase id = stage (replicate (rowCount * rowWords) 0) 0 phase id
 
-abbrev oneSession : ℕ → ℕ → ℕ → ℕ → Phase → ℕ → State
+abbrev pub oneSession : ℕ → ℕ → ℕ → ℕ → Phase → ℕ → State
 oneSession id b status stamp phase after = stage (id ∷ b ∷ wordWith writeOnly status 0 ∷ stamp ∷ replicate 60 0) 1 phase after
 
-abbrev imageOpen : State
+abbrev pub imageOpen : State
 imageOpen = oneSession 0 imageBlob untried 1 Uploading 1
 
-abbrev imageClosed : State
+abbrev pub imageClosed : State
 imageClosed = noSession Uploading 1
 
 abbrev verifyOpen : State
@@ -117,35 +118,35 @@ abbrev updateRuns : State
 updateRuns = oneSession 2 updateBlob running 7 Verified 3
 
 -- ---- what each event does
-opens-image : (m : List ℕ) → answered (Open writeOnly (Flash Image)) 1 m fresh .1 ≡ imageOpen
+pub opens-image : (m : List ℕ) → answered (Open writeOnly (Flash Image)) 1 m fresh ≡ (reply (bytesOf 2 0), imageOpen)
 unfolding answered swept openBlob openFlash flashListed rowFound first freeRowIn freshFrom opened openedFlash fresh
 opens-image m = refl
 
-closes-image : (m : List ℕ) → answered (Close 0) 2 m imageOpen .1 ≡ imageClosed
+pub closes-image : (m : List ℕ) → answered (Close 0) 2 m imageOpen ≡ (done, imageClosed)
 unfolding answered onSession rowFound first onFlash kindOf closeFlash closedFlash
 closes-image m = refl
 
-opens-verify : (m : List ℕ) → answered (Open writeOnly (Flash Verify)) 3 m imageClosed .1 ≡ verifyOpen
+opens-verify : (m : List ℕ) → answered (Open writeOnly (Flash Verify)) 3 m imageClosed ≡ (reply (bytesOf 2 1), verifyOpen)
 unfolding answered swept openBlob openFlash flashListed rowFound first freeRowIn freshFrom opened openedFlash
 opens-verify m = refl
 
-commits-verify : (m : List ℕ) → answered (Commit 1 0 0) 4 m verifyOpen .1 ≡ verifyRuns
+commits-verify : (m : List ℕ) → answered (Commit 1 0 0) 4 m verifyOpen ≡ (done, verifyRuns)
 unfolding answered onSession rowFound first onFlash kindOf commitFlash commitKind verifyJob
 commits-verify m = refl
 
-good-verify : onSession OnFlash 0 (endJob true) verifyRuns .1 ≡ verifyGood
+good-verify : onSession OnFlash 0 (endJob true) verifyRuns ≡ (done, verifyGood)
 unfolding onSession rowFound first onFlash kindOf jobEnds
 good-verify = refl
 
-closes-verify : (m : List ℕ) → answered (Close 1) 5 m verifyGood .1 ≡ verifyClosed
+closes-verify : (m : List ℕ) → answered (Close 1) 5 m verifyGood ≡ (done, verifyClosed)
 unfolding answered onSession rowFound first onFlash kindOf closeFlash closedFlash
 closes-verify m = refl
 
-opens-update : (m : List ℕ) → answered (Open writeOnly (Flash Update)) 6 m verifyClosed .1 ≡ updateOpen
+opens-update : (m : List ℕ) → answered (Open writeOnly (Flash Update)) 6 m verifyClosed ≡ (reply (bytesOf 2 2), updateOpen)
 unfolding answered swept openBlob openFlash flashListed rowFound first freeRowIn freshFrom opened openedFlash
 opens-update m = refl
 
-commits-update : (m : List ℕ) → answered (Commit 2 0 0) 7 m updateOpen .1 ≡ updateRuns
+commits-update : (m : List ℕ) → answered (Commit 2 0 0) 7 m updateOpen ≡ (done, updateRuns)
 unfolding answered onSession rowFound first onFlash kindOf commitFlash commitKind updateJob
 commits-update m = refl
 
@@ -158,34 +159,26 @@ open-decoded Update = refl
 open-decoded Cleanup = refl
 
 -- ---- one after the other
-by-message : (t : ℕ) (m : List ℕ) (q : Request) (s y : State) → decoded m ≡ q → answered q t m s .1 ≡ y → isSound s ≡ true → next s (message t m) ≡ y
-by-message t m q s y d e h = ap (λ (o : Effect). o .state) (respond-is t m s h) ∙ ap (λ (x : Request). answered x t m s .1) d ∙ e
-
-by-outcome : (good : Bool) (s y : State) → onSession OnFlash 0 (endJob good) s .1 ≡ y → isSound s ≡ true → next s (jobEnded good) ≡ y
-by-outcome good s y e h = ap (λ (o : Effect). o .state) (job-is good s h) ∙ e
-
--- an event, then the rest
-on : (s y z : State) (e : Event) (es : List Event) → (isSound s ≡ true → next s e ≡ y) → (isSound y ≡ true → run y es ≡ z) → isSound s ≡ true → run s (e ∷ es) ≡ z
-on s y z e es f g h = ap (λ (x : State). run x es) (f h) ∙ g (ap isSound (sym (f h)) ∙ next-sound s e h)
-
-runs : run fresh history ≡ updateOpen
+runs : Goes fresh history (success ∷ success ∷ success ∷ success ∷ success ∷ success ∷ success ∷ []) updateOpen
 runs =
-    on fresh imageOpen updateOpen openImage (closeImage ∷ openVerify ∷ commitVerify ∷ goodOutcome ∷ closeVerify ∷ openUpdate ∷ [])
-    (by-message 1 (askOpen writeOnly (flashName Image)) (Open writeOnly (Flash Image)) fresh imageOpen (open-decoded Image) (opens-image (askOpen writeOnly (flashName Image))))
-    (on imageOpen imageClosed updateOpen closeImage (openVerify ∷ commitVerify ∷ goodOutcome ∷ closeVerify ∷ openUpdate ∷ [])
-    (by-message 2 (askClose 0) (Close 0) imageOpen imageClosed (close-decoded 0 (omega arith)) (closes-image (askClose 0)))
-    (on imageClosed verifyOpen updateOpen openVerify (commitVerify ∷ goodOutcome ∷ closeVerify ∷ openUpdate ∷ [])
-    (by-message 3 (askOpen writeOnly (flashName Verify)) (Open writeOnly (Flash Verify)) imageClosed verifyOpen (open-decoded Verify)
-    (opens-verify (askOpen writeOnly (flashName Verify))))
-    (on verifyOpen verifyRuns updateOpen commitVerify (goodOutcome ∷ closeVerify ∷ openUpdate ∷ []) (by-message 4 (askCommit 1) (Commit 1 0 0) verifyOpen verifyRuns (commit-decoded 1 (omega arith)) (commits-verify (askCommit 1)))
-    (on verifyRuns verifyGood updateOpen goodOutcome (closeVerify ∷ openUpdate ∷ []) (by-outcome true verifyRuns verifyGood good-verify)
-    (on verifyGood verifyClosed updateOpen closeVerify (openUpdate ∷ []) (by-message 5 (askClose 1) (Close 1) verifyGood verifyClosed (close-decoded 1 (omega arith)) (closes-verify (askClose 1)))
-    (on verifyClosed updateOpen updateOpen openUpdate [] (by-message 6 (askOpen writeOnly (flashName Update)) (Open writeOnly (Flash Update)) verifyClosed updateOpen
-    (open-decoded Update) (opens-update (askOpen writeOnly (flashName Update))))
-    (λ (h : isSound updateOpen ≡ true). refl))))))) fresh-sound
+    on (by-message 1 (askOpen writeOnly (flashName Image)) (Open writeOnly (Flash Image)) fresh (reply (bytesOf 2 0)) imageOpen (open-decoded Image) (opens-image (askOpen writeOnly (flashName Image))))
+    (on (by-message 2 (askClose 0) (Close 0) imageOpen done imageClosed (close-decoded 0 (omega arith)) (closes-image (askClose 0)))
+    (on (by-message 3 (askOpen writeOnly (flashName Verify)) (Open writeOnly (Flash Verify)) imageClosed (reply (bytesOf 2 1)) verifyOpen (open-decoded Verify) (opens-verify (askOpen writeOnly (flashName Verify))))
+    (on (by-message 4 (askCommit 1) (Commit 1 0 0) verifyOpen done verifyRuns (commit-decoded 1 (omega arith)) (commits-verify (askCommit 1)))
+    (on (by-outcome true verifyRuns done verifyGood good-verify)
+    (on (by-message 5 (askClose 1) (Close 1) verifyGood done verifyClosed (close-decoded 1 (omega arith)) (closes-verify (askClose 1)))
+    (on (by-message 6 (askOpen writeOnly (flashName Update)) (Open writeOnly (Flash Update)) verifyClosed (reply (bytesOf 2 2)) updateOpen (open-decoded Update) (opens-update (askOpen writeOnly (flashName Update))))
+    (ends updateOpen))))))) fresh-sound
 
 open-sound : isSound updateOpen ≡ true
-open-sound = ap isSound (sym runs) ∙ run-sound history fresh fresh-sound
+open-sound = ap isSound (sym (runs .left)) ∙ run-sound history fresh fresh-sound
+
+last-runs : Goes updateOpen (commitUpdate ∷ []) (success ∷ []) updateRuns
+last-runs = on (by-message 7 (askCommit 2) (Commit 2 0 0) updateOpen done updateRuns (commit-decoded 2 (omega arith)) (commits-update (askCommit 2))) (ends updateRuns) open-sound
+
+-- EVERY EVENT IS ACCEPTED: the seven of the history, and the commit of update behind them
+pub all-accepted : codes (alone step fresh (history ++ (commitUpdate ∷ []))) ≡ success ∷ success ∷ success ∷ success ∷ success ∷ success ∷ success ∷ success ∷ []
+all-accepted = then runs last-runs .coded
 
 job-starts : not (eqb (jobState Update updateOpen) running) && eqb (jobState Update updateRuns) running ≡ true
 unfolding jobState rowFound first
@@ -194,7 +187,6 @@ job-starts = refl
 -- AN UPDATE JOB STARTS AFTER THIS HISTORY
 pub update-starts : startsUpdate (run fresh history) commitUpdate ≡ true
 update-starts =
-    ap (λ (x : State). startsUpdate x commitUpdate) runs
-    ∙ ap (λ (x : State). not (eqb (jobState Update updateOpen) running) && eqb (jobState Update x) running) (by-message 7 (askCommit 2) (Commit 2 0 0) updateOpen updateRuns
-    (commit-decoded 2 (omega arith)) (commits-update (askCommit 2)) open-sound)
+    ap (λ (x : State). startsUpdate x commitUpdate) (runs .left)
+    ∙ ap (λ (x : State). not (eqb (jobState Update updateOpen) running) && eqb (jobState Update x) running) (last-runs .left)
     ∙ job-starts

@@ -5,13 +5,12 @@ use mathlib.Core.Logic.{_≢_, Ne·symm}
 use mathlib.Core.Bool.{Bool, true, false, not, cond, _&&_, _||_, true≢false}
 use mathlib.Core.Option.{Option, none, some}
 use mathlib.Core.List.{List, [], _∷_, _++_}
-use Prim.Native.Nat.{ℕ, zero, suc, _+_, _≤_, _<_, max}
+use Prim.Native.Nat.{ℕ, zero, suc, _+_, _≤_, _<_}
 use native.Mathlib.Omega.{arith}
 use native.Mathlib.Decide.{ℕ-discrete}
 use lib.Dec.{eqb}
 use borrow.Author.Tests.{eqb-true, eq-eqb, ne-eqb}
 use lib.ListN.{length, drop}
-use lib.Seq.{getD-set-other, getD-set-same}
 use Rattle.laws.specs.All.{and-true, Or, this, that}
 use Rattle.laws.specs.Bits.{bit, bit-zero}
 use Rattle.laws.specs.Ranges.{part}
@@ -31,7 +30,7 @@ use Rattle.state.specs.declared.row.Place.{Place}
 use Rattle.state.specs.declared.row.Place.the-variants.{AtSlot, AtFlash}
 use Rattle.state.specs.State.{State, Row, Slot, FlashBody, Body, placeOf, inRow, inBody, cell}
 use Rattle.state.specs.Parts.{cell-row-other, row-put, row-view-fits}
-use Rattle.state.specs.Words.{blobOf, wordOf, stampOf, flagsIn, statusIn, statusOf, cleanOf, wordWith, stamped, withStatus, emptyFlash, blob, inUse, Live, fresh, status-with, freeSlot, storeFlags, flashFlags, store-flags}
+use Rattle.state.specs.Words.{blobOf, statusOf, stamped, withStatus, emptyFlash, blob, inUse, Live, fresh, status-with, freeSlot, storeFlags, flashFlags, store-flags}
 use Rattle.state.specs.Soundness.{isSound, slotAt}
 use Rattle.state.specs.Facts.{FlashSession, PhaseOk, Session, Sound}
 use Rattle.state.specs.Fresh.{fresh-sound}
@@ -44,7 +43,7 @@ use Rattle.rules.specs.Session.{onPart, onPlace, onRow, onFound, onSession, row
 use Rattle.rules.specs.Sweep.{stale, sweepRow, sweepRows, noted, due, swept}
 use Rattle.rules.specs.Open.{openStore, openFlash, openBlob}
 use Rattle.rules.specs.Respond.{Effect, answered, respond}
-use Rattle.rules.specs.Laws.{respond-is, job-is, cond-has, placed-has, some-has, none-has}
+use Rattle.rules.specs.Laws.{respond-is, job-is, cond-has, placed-has, some-has, none-has, stamped-status, status-set}
 use Rattle.rules.specs.Change.{Proper, row-new, row-old, Was, was}
 use Rattle.guarantees.specs.Merging.{Event, message, jobEnded, effectOn, proper-row}
 use Rattle.guarantees.specs.Keep.{swept-sound, sweep-rows-sound, respond-sound, job-sound}
@@ -158,14 +157,6 @@ Good close = ⊥
 Good writeMeta = ⊥
 Good (endJob true) = Unit {0}
 Good (endJob false) = ⊥
-
-stamped-status : (t : ℕ) (r : Row) → statusOf (stamped t r) ≡ statusOf r
-stamped-status t r = ap statusIn (getD-set-other (r .words) 3 2 (max (stampOf r) t) 0 (omega arith))
-
-status-set : (v : ℕ) (r : Row) → length (r .words) ≡ rowWords → v < 4 → statusOf (withStatus v r) ≡ v
-status-set v r four h =
-    ap statusIn (getD-set-same (r .words) 2 (wordWith (flagsIn (wordOf r)) v (cleanOf r)) 0 (omega arith))
-    ∙ status-with (flagsIn (wordOf r)) v (cleanOf r) (omega arith) h (omega arith)
 
 module _ (t : ℕ) (r : Row) (b : FlashBody) (four : length (r .words) ≡ rowWords) where
   -- status 2 on verify: it was so, or the job runs and this is its good outcome

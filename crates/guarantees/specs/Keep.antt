@@ -101,7 +101,8 @@ opened-sound s g r low free p b flags clean t body at alone fits ses named =
     (added-sound s g r low free p row body refl refl at alone fits (ses small) (λ (q : ℕ) (l : Live q s). fresh-unused s (g .shape .next-small) q l) named)
 
 -- ---- places without a session
-alone-slot : (k : ℕ) (s : State) → k < slotCount → ((q : ℕ) → Live q s → blob q s ≢ k) → (q : ℕ) → Live q s → Separate (placeOf (blob q s)) (AtSlot k)
+-- a slot that no session is on is apart from every session's place
+pub alone-slot : (k : ℕ) (s : State) → k < slotCount → ((q : ℕ) → Live q s → blob q s ≢ k) → (q : ℕ) → Live q s → Separate (placeOf (blob q s)) (AtSlot k)
 alone-slot k s h f q l = subst (λ (w : Place). Separate (placeOf (blob q s)) w) (place-slot k h) (blobs-apart (blob q s) k (f q l) (λ (x : slotCount ≤ blob q s) (y : slotCount ≤ k). omega arith))
 
 alone-flash : (s : State) → ((q : ℕ) → Live q s → slotCount ≤ blob q s → ⊥) → (q : ℕ) → Live q s → Separate (placeOf (blob q s)) AtFlash
@@ -221,7 +222,8 @@ open-store-sound n flags t s g nm = open-store-has Kept s (λ _ _. g) n flags t 
     new r k f e w i j = subst (λ (x : ℕ). Kept (opened (AtSlot k) r k x 0 t (newSlot n) s)) (sym (writing flags (store-flags flags f) w)) (new-sound n t r k s g nm e (free-row s r i) (free-slot s k j))
 
 -- ---- Open, of a flash name
-kind-of-number : (k : FlashKind) → kindOf (flashNumber k) ≡ k
+-- a flash name's number is its own
+pub kind-of-number : (k : FlashKind) → kindOf (flashNumber k) ≡ k
 unfolding kindOf
 kind-of-number Image = refl
 kind-of-number Hash = refl
@@ -229,7 +231,8 @@ kind-of-number Verify = refl
 kind-of-number Update = refl
 kind-of-number Cleanup = refl
 
-number-high : (k : FlashKind) → (slotCount ≤ flashNumber k) × (flashNumber k ≤ cleanupBlob)
+-- and it lies behind the slots
+pub number-high : (k : FlashKind) → (slotCount ≤ flashNumber k) × (flashNumber k ≤ cleanupBlob)
 number-high Image = (omega arith, omega arith)
 number-high Hash = (omega arith, omega arith)
 number-high Verify = (omega arith, omega arith)

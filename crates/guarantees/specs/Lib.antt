@@ -5,6 +5,7 @@ pub mod Naming
 pub mod Keep
 pub mod Refusals
 pub mod FlashPromise
+pub mod Steps
 pub mod Fits
 pub mod Sessions
 pub mod Answer

@@ -2,18 +2,22 @@
 -- each request is answered as in its list run whole, and the whole end state is the same. Assumes nothing.
 use mathlib.Core.Path.{_≡_, refl, sym, _∙_, ap, subst}
 use mathlib.Core.Logic.{_≢_}
-use mathlib.Core.Bool.{Bool, true, false, cond}
+use mathlib.Core.Bool.{Bool, true, false, cond, _||_, true≢false}
 use mathlib.Core.Option.{Option}
-use mathlib.Core.List.{List, [], _++_}
-use Prim.Native.Nat.{ℕ, _≤_}
+use mathlib.Core.List.{List, [], _∷_, _++_}
+use Prim.Native.Nat.{ℕ, suc, _≤_, _<_}
 use native.Mathlib.Decide.{ℕ-discrete}
+use native.Mathlib.Omega.{arith}
 use lib.Dec.{ltb, eqb, leb}
 use lib.ListN.{drop}
 use borrow.Author.Tests.{ltb-true, eq-eqb, ne-eqb, le-leb, leb-true}
+use Rattle.laws.specs.All.{Or, this, that}
 use Rattle.laws.specs.Merge.{Apart, Same, Merges, Merge, All, whole, times, tag, of, answers, alone, family, two, apart-same}
 use Rattle.laws.specs.Lens.{local-apart}
-use Rattle.protocol.specs.Numbers.{slotCount}
-use Rattle.protocol.specs.Decode.{decoded, numberOf}
+use Rattle.protocol.specs.Numbers.{slotCount, readCommand, writeCommand, commitCommand, closeCommand, sessionStatCommand, writeMetaCommand}
+use Rattle.protocol.specs.Decode.{decoded, asked, withName, subcommand, refusedWith, numberOf, valuesOf}
+use Rattle.protocol.specs.Cases.{Each, each-command, named-case, decoded-case}
+use Rattle.protocol.specs.declared.Blob.{Blob}
 use Rattle.protocol.specs.Frame.{Reply, refused, Answer, framed}
 use Rattle.protocol.specs.declared.Request.{Request}
 use Rattle.protocol.specs.declared.Request.the-variants.{Count, Enumerate, Open, Read, Write, Commit, Close, Delete, Stat, SessionStat, WriteMeta, Refused}
@@ -51,14 +55,69 @@ abbrev pub step : State → Event → Answer × State
 step s e = ((effectOn e s .code, effectOn e s .response), effectOn e s .state)
 
 -- ---- whom an event is for
--- the command that names a session, or a refusal that needs no state, or something else
-pub data Deed : Type 0 where
+-- the subcommands that name a session (rule 3.4)
+abbrev pub ofSession : (number : ℕ) → Bool
+ofSession n = eqb n readCommand || (eqb n writeCommand || (eqb n commitCommand || (eqb n closeCommand || (eqb n sessionStatCommand || eqb n writeMetaCommand))))
+
+-- the first of a request's values is id
+abbrev pub FirstIs : ℕ → List ℕ → Type 0
+FirstIs id [] = ⊥
+FirstIs id (v ∷ vs) = v ≡ id
+
+-- a request names the session with the identifier id by its first value; or its number is above the subcommands, a completion code: it is refused, and names none
+abbrev pub NamedBy : Request → (id : ℕ) → Type 0
+NamedBy q id = Or (writeMetaCommand < numberOf q) ((ofSession (numberOf q) ≡ true) × FirstIs id (valuesOf q))
+
+-- an event names the session that row i has in the state s, a job outcome the flash session; or it is refused early and names none
+abbrev pub NamesRow : State → ℕ → Event → Type 0
+NamesRow s i (message t m) = NamedBy (decoded m) (ident i s)
+NamesRow s i (jobEnded good) = slotCount ≤ blob i s
+
+-- the event may stand in the list of the session that row i has in s: a Read, Write, Commit, SessionStat or Close with the identifier that the row has there, also after its Close,
+-- or a job outcome where the row is the flash session, or a message that is refused before its command's own order. It admits two kinds more than document 01 asks for:
+-- WriteMeta with the identifier, and Open, Delete and Stat that are refused for their name's form (rule 21.8)
+abbrev pub Mine : State → ℕ → Event → Type 0
+Mine s i e = Live i s × NamesRow s i e
+
+-- ---- messages that are refused early
+-- a refusal's number is above the subcommands
+abbrev Early : Request → Type 0
+Early Count = Unit {0}
+Early (Enumerate index) = Unit {0}
+Early (Open flags b) = Unit {0}
+Early (Read session offset n) = Unit {0}
+Early (Write session offset start) = Unit {0}
+Early (Commit session len rest) = Unit {0}
+Early (Close session) = Unit {0}
+Early (Delete b) = Unit {0}
+Early (Stat b) = Unit {0}
+Early (SessionStat session) = Unit {0}
+Early (WriteMeta session) = Unit {0}
+Early (Refused code) = writeMetaCommand < code .0
+
+early-asked : (m : List ℕ) → Each (λ (sub : ℕ). Early (asked sub m)) (suc writeMetaCommand)
+unfolding asked
+early-asked m = (((((((((((tt, tt), tt), with-name _ _ (λ b. tt)), tt), tt), tt), tt), with-name _ _ (λ b. tt)), with-name _ _ (λ b. tt)), tt), tt)
+  where
+    with-name : (at : ℕ) (f : Blob → Request) → ((b : Blob) → Early (f b)) → Early (withName at m f)
+    with-name at f e = named-case Early at m f (omega arith) (λ _. e _)
+
+early-decoded : (m : List ℕ) → Early (decoded m)
+early-decoded m = decoded-case Early m (omega arith) (omega arith) (omega arith) (λ _ (c : subcommand m ≤ writeMetaCommand) _. each-command (λ (sub : ℕ). Early (asked sub m)) (subcommand m) (early-asked m) c)
+
+-- A MESSAGE THAT IS REFUSED BEFORE ITS COMMAND'S OWN ORDER MAY STAND IN ANY SESSION'S LIST (rule 21.8)
+pub refused-anywhere : (s : State) (i t : ℕ) (m : List ℕ) (code : ℕ) → Live i s → decoded m ≡ refusedWith code → Mine s i (message t m)
+refused-anywhere s i t m code l e =
+    (l, subst (λ (q : Request). NamedBy q (ident i s)) (sym e) (this (subst Early e (early-decoded m))))
+
+-- ---- the command that an event asks of a session, or a refusal that needs no state, or something else
+data Deed : Type 0 where
   asks : Wanted → ℕ → Command → Deed
   early : ℕ → Deed
   other : Deed
 
 -- of a decoded message
-abbrev pub deedIn : Request → ℕ → List ℕ → Deed
+abbrev deedIn : Request → ℕ → List ℕ → Deed
 deedIn Count t m = other
 deedIn (Enumerate index) t m = other
 deedIn (Open flags b) t m = other
@@ -73,23 +132,41 @@ deedIn (WriteMeta session) t m = asks (Id session) t writeMeta
 deedIn (Refused code) t m = early (code .0)
 
 -- of an event
-abbrev pub deed : Event → Deed
+abbrev deed : Event → Deed
 deed (message t m) = deedIn (decoded m) t m
 deed (jobEnded good) = asks OnFlash 0 (endJob good)
 
--- the deed names the session that row i has in the state s, or is refused early and so names none
-abbrev pub Names : State → ℕ → Deed → Type 0
+-- the deed names the session of row i, or is refused early
+abbrev Names : State → ℕ → Deed → Type 0
 Names s i (asks (Id id) t c) = id ≡ ident i s
 Names s i (asks (OnBlob b) t c) = b ≡ blob i s
 Names s i (asks OnFlash t c) = slotCount ≤ blob i s
 Names s i (early code) = Unit {0}
 Names s i other = ⊥
 
--- the event may stand in the list of the session that row i has in s: a Read, Write, Commit, SessionStat or Close with the identifier that the row has there, also after its Close,
--- or a job outcome where the row is the flash session, or a message that is refused before its command's own order. It admits two kinds more than document 01 asks for:
--- WriteMeta with the identifier, and Open, Delete and Stat that are refused for their name's form (rule 21.8)
-abbrev pub Mine : State → ℕ → Event → Type 0
-Mine s i e = Live i s × Names s i (deed e)
+-- a request whose number is a subcommand's names a session by its first value
+by-first : {P : Type 0} (q : Request) (id : ℕ) → numberOf q ≤ writeMetaCommand → (ofSession (numberOf q) ≡ true → FirstIs id (valuesOf q) → P) → NamedBy q id → P
+by-first q id l f (this h) = absurd (omega arith)
+by-first q id l f (that p) = f (p .0) (p .1)
+
+-- and so its deed does
+names-deed : (q : Request) (s : State) (i t : ℕ) (m : List ℕ) → NamedBy q (ident i s) → Names s i (deedIn q t m)
+names-deed Count s i t m = by-first Count (ident i s) (omega arith) (λ _ x. x)
+names-deed (Enumerate index) s i t m = by-first (Enumerate index) (ident i s) (omega arith) (λ e _. absurd (true≢false (sym e)))
+names-deed (Open flags b) s i t m = by-first (Open flags b) (ident i s) (omega arith) (λ e _. absurd (true≢false (sym e)))
+names-deed (Read session offset n) s i t m = by-first (Read session offset n) (ident i s) (omega arith) (λ _ x. x)
+names-deed (Write session offset start) s i t m = by-first (Write session offset start) (ident i s) (omega arith) (λ _ x. x)
+names-deed (Commit session len rest) s i t m = by-first (Commit session len rest) (ident i s) (omega arith) (λ _ x. x)
+names-deed (Close session) s i t m = by-first (Close session) (ident i s) (omega arith) (λ _ x. x)
+names-deed (Delete b) s i t m = by-first (Delete b) (ident i s) (omega arith) (λ _ x. x)
+names-deed (Stat b) s i t m = by-first (Stat b) (ident i s) (omega arith) (λ _ x. x)
+names-deed (SessionStat session) s i t m = by-first (SessionStat session) (ident i s) (omega arith) (λ _ x. x)
+names-deed (WriteMeta session) s i t m = by-first (WriteMeta session) (ident i s) (omega arith) (λ _ x. x)
+names-deed (Refused code) s i t m = λ _. tt
+
+deed-of : (e : Event) (s : State) (i : ℕ) → NamesRow s i e → Names s i (deed e)
+deed-of (message t m) s i = names-deed (decoded m) s i t m
+deed-of (jobEnded good) s i = λ h. h
 
 -- ---- what a command does on its own part is proper
 pub proper : (p : Place) (t : ℕ) (c : Command) (r : Row) (b : Body p) → FitsRow r → FitsBody p b → r .used ≡ 1 → Session p r b
@@ -225,11 +302,11 @@ module _ (s₀ : State) (good₀ : Sound s₀) where
 
   plain-apart : Apart plain (Since s₀) (Mine s₀)
   plain-apart = local-apart plain (Since s₀) (Mine s₀) Part (λ (i : ℕ). cell i (placeOf (blob i s₀))) (record {
-    stays = λ (i : ℕ) (e : Event) (s : State) (o : Mine s₀ i e) (since : Since s₀ s). remains i (deed e) s (o .0) (o .1) since;
+    stays = λ (i : ℕ) (e : Event) (s : State) (o : Mine s₀ i e) (since : Since s₀ s). remains i (deed e) s (o .0) (deed-of e s₀ i (o .1)) since;
     disjoint = λ (i j : ℕ) (a b : Event) (n : i ≢ j) (x : Mine s₀ i a) (y : Mine s₀ j b). cell-indep i j (placeOf (blob i s₀)) (placeOf (blob j s₀)) n (good₀ .spots i j (x .0) (y .0) n);
     reply = λ (i : ℕ) (e : Event) (c : Part i). say e (within i (deed e) c .0);
     act = λ (i : ℕ) (e : Event) (c : Part i). within i (deed e) c .1;
-    inside = λ (i : ℕ) (e : Event) (s : State) (o : Mine s₀ i e) (since : Since s₀ s). ap (λ (x : Reply × State). (say e (x .0), x .1)) (inside i (deed e) s (o .0) (o .1) since);
+    inside = λ (i : ℕ) (e : Event) (s : State) (o : Mine s₀ i e) (since : Since s₀ s). ap (λ (x : Reply × State). (say e (x .0), x .1)) (inside i (deed e) s (o .0) (deed-of e s₀ i (o .1)) since);
   })
 
   -- the rules do this
@@ -253,7 +330,7 @@ module _ (s₀ : State) (good₀ : Sound s₀) where
 
   step-is : (i : ℕ) (e : Event) (s : State) → Mine s₀ i e → Since s₀ s → step s e ≡ plain s e
   step-is i (message t m) s o since =
-      ap told (respond-is t m s (test-of-sound s (since .good))) ∙ ap (λ (x : Reply × State). (framed (numberOf (decoded m)) (x .0), x .1)) (message-is (decoded m) i t m s (o .1))
+      ap told (respond-is t m s (test-of-sound s (since .good))) ∙ ap (λ (x : Reply × State). (framed (numberOf (decoded m)) (x .0), x .1)) (message-is (decoded m) i t m s (deed-of (message t m) s₀ i (o .1)))
   step-is i (jobEnded good) s o since = ap told (job-is good s (test-of-sound s (since .good)))
 
   step-apart : Apart step (Since s₀) (Mine s₀)

@@ -1,28 +1,41 @@
--- The premises of demand 3 are met: two sound states with two sessions each, on two store names and on a store name and the flash, and for each session a list of
--- messages that are all accepted. Assumes nothing.
+-- The premises of demand 3 are met: two sound states with two sessions each, on two store names and on a store name and the flash, and for each session a list, with
+-- the code of each of its events. A store session's messages are all accepted; the flash session's list has job outcomes, refusals, and a message after its Close. Assumes nothing.
 use mathlib.Core.Path.{_≡_, refl, sym, _∙_, ap, subst}
 use mathlib.Core.Logic.{_≢_}
-use mathlib.Core.Bool.{true}
+use mathlib.Core.Bool.{true, false}
 use mathlib.Core.List.{List, [], _∷_, _++_}
 use Prim.Native.Nat.{ℕ, _≤_}
 use native.Mathlib.Omega.{arith}
+use Rattle.laws.specs.All.{that}
+use Rattle.laws.specs.Find.{first}
 use Rattle.laws.specs.Merge.{Same, Merge, All, tag, alone}
 use Rattle.protocol.specs.Sizes.{slot-size}
-use Rattle.protocol.specs.Numbers.{success, running, slotSize}
+use Rattle.protocol.specs.Numbers.{success, busy, notSupported, notFound, running, succeeded, slotSize, verifyBlob}
+use Rattle.protocol.specs.Names.{kindOf}
 use Rattle.protocol.specs.Decode.{decoded}
-use Rattle.protocol.specs.Frame.{Answer}
+use Rattle.protocol.specs.Frame.{refused, done, reply, statFields}
 use Rattle.protocol.specs.declared.Request.{Request}
-use Rattle.state.specs.State.{State, Row, Slot, inRow}
-use Rattle.state.specs.Words.{idOf, blobOf, statusOf, writes, ident, blob, Live}
+use Rattle.protocol.specs.declared.Request.the-variants.{Close, SessionStat}
+use Rattle.state.specs.declared.Phase.{Phase}
+use Rattle.state.specs.declared.Phase.the-variants.{Uploading, Verified}
+use Rattle.state.specs.declared.row.Place.the-variants.{AtFlash}
+use Rattle.state.specs.declared.row.Wanted.the-variants.{OnFlash}
+use Rattle.state.specs.State.{State, Row, Slot, inRow, cell}
+use Rattle.state.specs.Words.{idOf, blobOf, statusOf, writes, ident, blob, Live, freeRow, fresh}
 use Rattle.state.specs.Soundness.{slotAt, isSound}
 use Rattle.state.specs.Facts.{Sound}
 use Rattle.state.specs.Agree.{test-of-sound}
 use Rattle.rules.specs.Store.{seenLength}
-use Rattle.rules.specs.Respond.{respond}
+use Rattle.rules.specs.Command.{endJob, stateBits}
+use Rattle.rules.specs.Flash.{withPhase, flashLength, closedFlash, closeFlash, jobEnds, onFlash}
+use Rattle.rules.specs.Session.{rowFound, onSession}
+use Rattle.rules.specs.Respond.{answered, respond}
 use Rattle.rules.specs.Messages.{askRead, askWrite, askClose, askSessionStat, read-decoded, write-decoded, close-decoded, stat-decoded}
-use Rattle.rules.specs.Situations.{scanName, letterA, writingRow, writtenSlot, imageRow, twoWriters, two-good, two-first, two-second, two-slot, writerAndImage, image-good, image-first, image-second, image-slot}
+use Rattle.rules.specs.Situations.{scanName, letterA, writingRow, writtenSlot, writer, newImage, verifyRow, twoWriters, two-good, two-first, two-second, two-slot}
+use Rattle.rules.specs.Situations.{writerAndVerify, verify-good, verify-first, verify-second, verify-slot}
 use Rattle.rules.specs.Examples.{Writes}
-use Rattle.guarantees.specs.Merging.{Event, message, step, deedIn, Names, Mine, merge-two}
+use Rattle.guarantees.specs.Merging.{Event, message, jobEnded, step, NamedBy, Mine, merge-two}
+use Rattle.guarantees.specs.Steps.{codes, Goes, by-message, by-outcome, ends, on}
 use Rattle.guarantees.specs.Sessions.{write-then-read, stat-then-close}
 
 -- the bytes that are written
@@ -37,24 +50,27 @@ writeAndRead = message 200 (askWrite 0 0 someBytes) ∷ message 150 (askRead 0 0
 abbrev pub statAndClose : List Event
 statAndClose = message 120 (askSessionStat 1) ∷ message 300 (askClose 1) ∷ []
 
--- the completion codes of answers
-abbrev pub codes : List Answer → List ℕ
-codes [] = []
-codes (a ∷ rest) = a .0 ∷ codes rest
+-- of the flash session, which has the identifier 1 and a job that runs: SessionStat, a Close too early, the job's good end and an outcome without a job, Close, and SessionStat after it
+abbrev pub wholeVerify : List Event
+wholeVerify = message 120 (askSessionStat 1) ∷ message 130 (askClose 1) ∷ jobEnded true ∷ jobEnded false ∷ message 300 (askClose 1) ∷ message 90 (askSessionStat 1) ∷ []
 
--- what is shown of a state with two sessions
-pub record Met (s : State) : Type 0 where
+-- what is shown of a state with two sessions, and of the second one's list ys with the codes cs
+pub record Met (s : State) (ys : List Event) (cs : List ℕ) : Type 0 where
   pub is-sound : isSound s ≡ true
   pub first-owns : All (Mine s 0) writeAndRead
-  pub second-owns : All (Mine s 1) statAndClose
-  -- every message is accepted
+  pub second-owns : All (Mine s 1) ys
+  -- what every event is answered
   pub first-codes : codes (alone step s writeAndRead) ≡ success ∷ success ∷ []
-  pub second-codes : codes (alone step s statAndClose) ≡ success ∷ success ∷ []
+  pub second-codes : codes (alone step s ys) ≡ cs
   -- so demand 3 speaks of every merge of the two lists
-  pub merged : (zs : List (ℕ × Event)) → Merge 0 1 writeAndRead statAndClose zs → Same step s zs (tag 0 writeAndRead ++ tag 1 statAndClose) × Same step s zs (tag 1 statAndClose ++ tag 0 writeAndRead)
+  pub merged : (zs : List (ℕ × Event)) → Merge 0 1 writeAndRead ys zs → Same step s zs (tag 0 writeAndRead ++ tag 1 ys) × Same step s zs (tag 1 ys ++ tag 0 writeAndRead)
+
+-- a message that asks q names whom q names
+owns : (m : List ℕ) (q : Request) (id : ℕ) → decoded m ≡ q → NamedBy q id → NamedBy (decoded m) id
+owns m q id d n = subst (λ (x : Request). NamedBy x id) (sym d) n
 
 module _ (s : State) (g : Sound s) (first-row : inRow 0 .get s ≡ writingRow 0) (first-slot : slotAt 0 s ≡ writtenSlot (scanName letterA) 100)
-    (live : Live 1 s) (id : ident 1 s ≡ 1) (quiet : statusOf (inRow 1 .get s) ≢ running) where
+    (ys : List Event) (cs : List ℕ) (second : All (Mine s 1) ys) (coded : codes (alone step s ys) ≡ cs) where
   first-live : Live 0 s
   first-live = (omega arith, ap (λ (r : Row). r .used) first-row)
 
@@ -72,52 +88,117 @@ module _ (s : State) (g : Sound s) (first-row : inRow 0 .get s ≡ writingRow 0)
     writing = ap writes first-row;
   }
 
-  -- the message asks q
-  owns : (i t : ℕ) (m : List ℕ) (q : Request) → decoded m ≡ q → Names s i (deedIn q t m) → Names s i (deedIn (decoded m) t m)
-  owns i t m q d n = subst (λ (x : Request). Names s i (deedIn x t m)) (sym d) n
-
-  met : Met s
+  met : Met s ys cs
   met =
       let wr = write-then-read 100 200 150 0 0 someBytes s first-writes (omega arith) (let z = slot-size in omega arith) (omega arith) in
-      let sc = stat-then-close 120 300 1 s (test-of-sound s g) live quiet in
       let xs : All (Mine s 0) writeAndRead = (
-        (first-live, owns 0 200 (askWrite 0 0 someBytes) _ (write-decoded 0 0 someBytes (omega arith) (omega arith) (omega arith) .0) (sym first-id)),
-        ((first-live, owns 0 150 (askRead 0 0 3) _ (read-decoded 0 0 3 (omega arith) (omega arith) (omega arith)) (sym first-id)), tt),
-      ) in
-      let ys : All (Mine s 1) statAndClose = (
-        (live, owns 1 120 (askSessionStat 1) _ (stat-decoded 1 (omega arith)) (sym id)),
-        ((live, owns 1 300 (askClose 1) _ (close-decoded 1 (omega arith)) (sym id)), tt),
+        (first-live, owns (askWrite 0 0 someBytes) _ _ (write-decoded 0 0 someBytes (omega arith) (omega arith) (omega arith) .0) (that (refl, sym first-id))),
+        ((first-live, owns (askRead 0 0 3) _ _ (read-decoded 0 0 3 (omega arith) (omega arith) (omega arith)) (that (refl, sym first-id))), tt),
       ) in
       let w : respond 200 (askWrite 0 0 someBytes) s .code ≡ success = subst (λ (x : ℕ). respond 200 (askWrite x 0 someBytes) s .code ≡ success) first-id (wr .write-code) in
       let r : respond 150 (askRead 0 0 3) (respond 200 (askWrite 0 0 someBytes) s .state) .code ≡ success
       = subst (λ (x : ℕ). respond 150 (askRead x 0 3) (respond 200 (askWrite x 0 someBytes) s .state) .code ≡ success) first-id (wr .read-code) in
-      let a : respond 120 (askSessionStat 1) s .code ≡ success = subst (λ (x : ℕ). respond 120 (askSessionStat x) s .code ≡ success) id (sc .0) in
-      let c : respond 300 (askClose 1) (respond 120 (askSessionStat 1) s .state) .code ≡ success
-      = subst (λ (x : ℕ). respond 300 (askClose x) (respond 120 (askSessionStat x) s .state) .code ≡ success) id (sc .1) in
       record {
         is-sound = test-of-sound s g;
         first-owns = xs;
-        second-owns = ys;
+        second-owns = second;
         first-codes = λ i. w i ∷ r i ∷ [];
-        second-codes = λ i. a i ∷ c i ∷ [];
-        merged = λ (zs : List (ℕ × Event)) (m : Merge 0 1 writeAndRead statAndClose zs). merge-two s (test-of-sound s g) 0 1 writeAndRead statAndClose zs (omega arith) xs ys m;
+        second-codes = coded;
+        merged = λ (zs : List (ℕ × Event)) (m : Merge 0 1 writeAndRead ys zs). merge-two s (test-of-sound s g) 0 1 writeAndRead ys zs (omega arith) xs second m;
       }
 
 fits-100 : 100 ≤ slotSize
 fits-100 = let z = slot-size in omega arith
 
--- no job runs on a row that was just opened
-quiet-row : (r q : Row) → r ≡ q → statusOf q ≡ 0 → statusOf r ≢ running
-quiet-row r q e z n = let y : statusOf r ≡ 0 = ap statusOf e ∙ z in omega arith
+-- ---- two store sessions
+module _ (s : State) (g : Sound s) (row : inRow 1 .get s ≡ writingRow 1) where
+  second-live : Live 1 s
+  second-live = (omega arith, ap (λ (r : Row). r .used) row)
+
+  second-id : ident 1 s ≡ 1
+  second-id = ap idOf row
+
+  -- no job runs on a row that was just opened
+  quiet : statusOf (inRow 1 .get s) ≢ running
+  quiet n = let y : statusOf (inRow 1 .get s) ≡ 0 = ap statusOf row in omega arith
+
+  stat-owned : All (Mine s 1) statAndClose
+  stat-owned = ((second-live, owns (askSessionStat 1) _ _ (stat-decoded 1 (omega arith)) (that (refl, sym second-id))), ((second-live, owns (askClose 1) _ _ (close-decoded 1 (omega arith)) (that (refl, sym second-id))), tt))
+
+  stat-codes : codes (alone step s statAndClose) ≡ success ∷ success ∷ []
+  stat-codes =
+      let sc = stat-then-close 120 300 1 s (test-of-sound s g) second-live quiet in
+      let a : respond 120 (askSessionStat 1) s .code ≡ success = subst (λ (x : ℕ). respond 120 (askSessionStat x) s .code ≡ success) second-id (sc .0) in
+      let c : respond 300 (askClose 1) (respond 120 (askSessionStat 1) s .state) .code ≡ success
+      = subst (λ (x : ℕ). respond 300 (askClose x) (respond 120 (askSessionStat x) s .state) .code ≡ success) second-id (sc .1) in λ i. a i ∷ c i ∷ []
 
 -- TWO STORE SESSIONS
-pub two-stores : Met (twoWriters 100)
+pub two-stores : Met (twoWriters 100) statAndClose (success ∷ success ∷ [])
 two-stores =
+    let g = two-good 100 fits-100 in
     let e = two-second 100 fits-100 in
-    met (twoWriters 100) (two-good 100 fits-100) (two-first 100) (two-slot 100) (omega arith, ap (λ (r : Row). r .used) e) (ap idOf e) (quiet-row (inRow 1 .get (twoWriters 100)) (writingRow 1) e refl)
+    met (twoWriters 100) g (two-first 100) (two-slot 100) statAndClose (success ∷ success ∷ []) (stat-owned (twoWriters 100) g e) (stat-codes (twoWriters 100) g e)
+
+-- ---- a store session and the flash session
+-- the state with this row and phase of the flash session
+abbrev flashAt : Row → Phase → State
+flashAt row phase = cell 1 AtFlash .put (row, withPhase phase newImage) (writer (scanName letterA) 100)
+
+-- the states on the way
+abbrev stillRuns : State
+stillRuns = flashAt (verifyRow running 120) Uploading
+
+abbrev hasEnded : State
+hasEnded = flashAt (verifyRow succeeded 120) Uploading
+
+abbrev afterClose : State
+afterClose = flashAt freeRow Verified
+
+shown : (m : List ℕ) → answered (SessionStat 1) 120 m (writerAndVerify 100) ≡ (reply (statFields 6 0), stillRuns)
+unfolding answered onSession rowFound first onFlash kindOf flashLength stateBits writerAndVerify writer fresh
+shown m = refl
+
+too-early : (m : List ℕ) → answered (Close 1) 130 m stillRuns ≡ (refused busy, stillRuns)
+unfolding answered onSession rowFound first onFlash kindOf closeFlash writer fresh
+too-early m = refl
+
+ended : onSession OnFlash 0 (endJob true) stillRuns ≡ (done, hasEnded)
+unfolding onSession rowFound first onFlash kindOf jobEnds writer fresh
+ended = refl
+
+no-job : onSession OnFlash 0 (endJob false) hasEnded ≡ (refused notSupported, hasEnded)
+unfolding onSession rowFound first onFlash kindOf jobEnds writer fresh
+no-job = refl
+
+closed : (m : List ℕ) → answered (Close 1) 300 m hasEnded ≡ (done, afterClose)
+unfolding answered onSession rowFound first onFlash kindOf closeFlash closedFlash writer fresh
+closed m = refl
+
+gone : (m : List ℕ) → answered (SessionStat 1) 90 m afterClose ≡ (refused notFound, afterClose)
+unfolding answered onSession rowFound first writer fresh
+gone m = refl
+
+verify-goes : Goes (writerAndVerify 100) wholeVerify (success ∷ busy ∷ success ∷ notSupported ∷ success ∷ notFound ∷ []) afterClose
+verify-goes =
+    on (by-message 120 (askSessionStat 1) (SessionStat 1) (writerAndVerify 100) (reply (statFields 6 0)) stillRuns (stat-decoded 1 (omega arith)) (shown (askSessionStat 1)))
+    (on (by-message 130 (askClose 1) (Close 1) stillRuns (refused busy) stillRuns (close-decoded 1 (omega arith)) (too-early (askClose 1)))
+    (on (by-outcome true stillRuns done hasEnded ended)
+    (on (by-outcome false hasEnded (refused notSupported) hasEnded no-job)
+    (on (by-message 300 (askClose 1) (Close 1) hasEnded done afterClose (close-decoded 1 (omega arith)) (closed (askClose 1)))
+    (on (by-message 90 (askSessionStat 1) (SessionStat 1) afterClose (refused notFound) afterClose (stat-decoded 1 (omega arith)) (gone (askSessionStat 1)))
+    (ends afterClose)))))) (test-of-sound (writerAndVerify 100) (verify-good 100 fits-100))
+
+verify-owned : All (Mine (writerAndVerify 100) 1) wholeVerify
+verify-owned =
+    let s = writerAndVerify 100 in
+    let e = verify-second 100 fits-100 in
+    let l : Live 1 s = (omega arith, ap (λ (r : Row). r .used) e) in
+    let id : ident 1 s ≡ 1 = ap idOf e in
+    let shows : Mine s 1 (message 120 (askSessionStat 1)) = (l, owns (askSessionStat 1) _ _ (stat-decoded 1 (omega arith)) (that (refl, sym id))) in
+    let closes : Mine s 1 (message 130 (askClose 1)) = (l, owns (askClose 1) _ _ (close-decoded 1 (omega arith)) (that (refl, sym id))) in
+    let reports : Mine s 1 (jobEnded true) = (l, let z : blob 1 s ≡ verifyBlob = ap blobOf e in omega arith) in (shows, (closes, (reports, (reports, (closes, (shows, tt))))))
 
 -- A STORE SESSION AND THE FLASH SESSION
-pub store-and-flash : Met (writerAndImage 100)
+pub store-and-flash : Met (writerAndVerify 100) wholeVerify (success ∷ busy ∷ success ∷ notSupported ∷ success ∷ notFound ∷ [])
 store-and-flash =
-    let e = image-second 100 fits-100 in
-    met (writerAndImage 100) (image-good 100 fits-100) (image-first 100) (image-slot 100) (omega arith, ap (λ (r : Row). r .used) e) (ap idOf e) (quiet-row (inRow 1 .get (writerAndImage 100)) imageRow e refl)
+    met (writerAndVerify 100) (verify-good 100 fits-100) (verify-first 100) (verify-slot 100) wholeVerify (success ∷ busy ∷ success ∷ notSupported ∷ success ∷ notFound ∷ []) verify-owned (verify-goes .coded)

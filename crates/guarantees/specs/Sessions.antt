@@ -38,7 +38,7 @@ use Rattle.guarantees.specs.Merging.{proper, proper-row, on-row-sound}
 use lib.Seq.{getD-set-other}
 
 -- a message that asks the session of row i for the command c
-asked-of : (t i : ℕ) (m : List ℕ) (q : Request) (c : Command) (s : State) → Sound s → Live i s → decoded m ≡ q → answered q t m s ≡ onSession (Id (ident i s)) t c s
+pub asked-of : (t i : ℕ) (m : List ℕ) (q : Request) (c : Command) (s : State) → Sound s → Live i s → decoded m ≡ q → answered q t m s ≡ onSession (Id (ident i s)) t c s
     → respond t m s ≡ effectOf (framed (numberOf q) (onRow i t c s .0)) (onRow i t c s .1)
 asked-of t i m q c s g l d e =
     respond-is t m s (test-of-sound s g) ∙ ap (λ (x : Request). effectOf (framed (numberOf x) (answered x t m s .0)) (answered x t m s .1)) d
@@ -49,7 +49,7 @@ id-small : (p : Place) (r : Row) (b : Body p) → Session p r b → idOf r < six
 id-small (AtSlot k) r b ses = ses .id-small
 id-small AtFlash r b ses = ses .id-small
 
-live-id : (i : ℕ) (s : State) → Sound s → Live i s → ident i s < sixteenBits
+pub live-id : (i : ℕ) (s : State) → Sound s → Live i s → ident i s < sixteenBits
 live-id i s g l = id-small (placeOf (blob i s)) (inRow i .get s) (inBody (placeOf (blob i s)) .get s) (g .session i l)
 
 -- ---- Write, then Read
@@ -81,11 +81,11 @@ pub record ReadBack (t u i offset : ℕ) (ws : List ℕ) (s : State) : Type 0 wh
   pub read-code : respond u (askRead (ident i s) offset (length ws)) (respond t (askWrite (ident i s) offset ws) s .state) .code ≡ success
   pub read-response : respond u (askRead (ident i s) offset (length ws)) (respond t (askWrite (ident i s) offset ws) s .state) .response ≡ sent readCommand ws
 
-done-code : (sub : ℕ) (x : Reply) → x ≡ done → framed sub x .0 ≡ success
+pub done-code : (sub : ℕ) (x : Reply) → x ≡ done → framed sub x .0 ≡ success
 unfolding framed
 done-code sub x e = ap (λ (y : Reply). framed sub y .0) e
 
-reply-frame : (sub : ℕ) (x : Reply) (f : List ℕ) → x ≡ reply f → (framed sub x .0 ≡ success) × (framed sub x .1 ≡ sent sub f)
+pub reply-frame : (sub : ℕ) (x : Reply) (f : List ℕ) → x ≡ reply f → (framed sub x .0 ≡ success) × (framed sub x .1 ≡ sent sub f)
 unfolding framed
 reply-frame sub x f e = (ap (λ (y : Reply). framed sub y .0) e, ap (λ (y : Reply). framed sub y .1) e)
 
