@@ -1,0 +1,1 @@
+// Theorems on answers; there is no code.
