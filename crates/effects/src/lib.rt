@@ -1,0 +1,1 @@
+// Theorems on what messages leave and show; there is no code.
