@@ -1,0 +1,1 @@
+// Theorems about committed scans stand in specs/; there is no code.
