@@ -1,0 +1,1 @@
+// Theorems about messages that are sent again stand in specs/; there is no code.
