@@ -1,21 +1,17 @@
--- What each subcommand asks, from what its reader found in the body, one law for each way. Assumes nothing.
+-- What each subcommand asks, from what the reader found in the body, one law for each way. Assumes nothing.
 use mathlib.Core.Path.{_≡_, ap, _∙_}
-use mathlib.Core.Bool.{Bool, true, false, not}
+use mathlib.Core.Bool.{Bool, true, false, not, cond}
 use mathlib.Core.List.{List}
-use Prim.Native.Nat.{ℕ, _+_, _-_}
+use Prim.Native.Nat.{ℕ, _+_, _-_, _≤_, _<_, _^_}
 use native.Mathlib.Omega.{arith}
-use lib.ListN.{length, getD, take, drop, length-drop}
+use lib.Dec.{eqb}
+use lib.ListN.{length, getD, take, drop}
 use lib.Seq.{getD-drop}
 use Rattle.laws.specs.All.{flag-true, flag-false}
 use Rattle.laws.specs.Bytes.{little, text}
-use Rattle.request_reader.proofs.Little.{in-rest}
-use Rattle.request_reader.specs.Wire.{indexOf, openOf, readOf, writeOf, commitOf, sessionOf}
-use Rattle.request_reader.specs.declared.IndexFields.{IndexFields}
-use Rattle.request_reader.specs.declared.OpenFields.{OpenFields}
-use Rattle.request_reader.specs.declared.ReadFields.{ReadFields}
-use Rattle.request_reader.specs.declared.WriteFields.{WriteFields}
-use Rattle.request_reader.specs.declared.CommitFields.{CommitFields}
-use Rattle.request_reader.specs.declared.SessionFields.{SessionFields}
+use Rattle.request_reader.proofs.Little.{in-rest, one, narrow}
+use Rattle.request_reader.specs.Wire.{fieldsOf}
+use Rattle.request_reader.specs.declared.Fields.{Fields}
 use Rattle.protocol.specs.declared.Blob.{Blob}
 use Rattle.protocol.specs.declared.Request.{Request}
 use Rattle.protocol.specs.declared.Request.the-variants.{Enumerate, Open, Read, Write, Commit, Close, Delete, Stat, SessionStat, WriteMeta}
@@ -23,91 +19,120 @@ use Rattle.protocol.specs.Numbers.{invalid}
 use Rattle.protocol.specs.Names.{nameForm, blobNamed}
 use Rattle.protocol.specs.Decode.{refusedWith, asked, withName}
 use Rattle.request_names.proofs.Names.{tail-part}
+use Rattle.request_decode.specs.declared.Widths.{Widths}
+use Rattle.request_decode.specs.Widths.{widths, widthsOf, fieldsIn}
 
--- a message's body as code has it
-abbrev pub bodyOf : List ℕ → List ℕ
-bodyOf m = take (length m - 4) (drop 4 m)
+-- ---- widths
+unfoldable pub Few : Widths → Type 0
+Few w = (w .first ≤ 4) × ((w .second ≤ 4) × (w .third ≤ 4))
 
-pub body-length : (m : List ℕ) → length (bodyOf m) ≡ length m - 4
-body-length m = rw tail-part (length-drop 4 m)
+few-either : (b : Bool) (v w : Widths) → Few v → Few w → Few (cond b v w)
+few-either true v w p q = p
+few-either false v w p q = q
+
+small : (a b c : ℕ) → a ≤ 4 → b ≤ 4 → c ≤ 4 → Few (widths a b c)
+unfolding Few
+small a b c p q r = (p, (q, r))
+
+-- no number has more than four bytes
+pub few : (sub : ℕ) → Few (widthsOf sub)
+unfolding widthsOf
+few sub =
+    few-either (eqb sub 1) _ _ (small 4 0 0 (omega arith) (omega arith) (omega arith))
+    (few-either (eqb sub 3) _ _ (small 2 4 4 (omega arith) (omega arith) (omega arith))
+    (few-either (eqb sub 4) _ _ (small 2 4 0 (omega arith) (omega arith) (omega arith))
+    (few-either (eqb sub 5) _ _ (small 2 1 0 (omega arith) (omega arith) (omega arith))
+    (few-either (eqb sub 7) _ _ (small 0 0 0 (omega arith) (omega arith) (omega arith))
+    (few-either (eqb sub 8) _ _ (small 0 0 0 (omega arith) (omega arith) (omega arith)) (small 2 0 0 (omega arith) (omega arith) (omega arith)))))))
+
+-- what the reader finds with the widths of a subcommand, by the message
+pub fields-found : (sub : ℕ) (m : List ℕ) (w : Widths) (f : Fields) → w ≡ widthsOf sub → f ≡ fieldsOf (take (length m - 4) (drop 4 m)) (w .first) (w .second) (w .third) → f ≡ fieldsIn sub m
+fields-found sub m w f p e = e ∙ ap (λ (l : List ℕ). fieldsOf l (w .first) (w .second) (w .third)) (tail-part 4 m) ∙ ap (λ (v : Widths). fieldsOf (drop 4 m) (v .first) (v .second) (v .third)) p
+
+-- so the place behind them is near the front
+pub near : (sub : ℕ) (m : List ℕ) (f : Fields) → f ≡ fieldsIn sub m → f .rest ≤ 14
+unfolding Few
+near sub m f e = let w = few sub in omega (arith, ap (λ (g : Fields). g .rest) e, w .0, w .1 .0, w .1 .1)
+
+-- a number of n bytes in the body fits n bytes
+pub fits : (m : List ℕ) → ((i : ℕ) → getD m i 0 < 256) → (n at v : ℕ) → v ≡ little n at (drop 4 m) → v < 256 ^ n
+fits m bytes n at v e = narrow (drop 4 m) (λ (i : ℕ). rw (getD-drop 4 m i 0) (bytes (4 + i))) n at v e
 
 -- ---- numbers
-pub enumerate-is : (m : List ℕ) (f : IndexFields) → f ≡ indexOf (bodyOf m) → Enumerate (f .index) ≡ asked 1 m
-unfolding asked indexOf
-enumerate-is m f e = ap (λ (g : IndexFields). Enumerate (g .index)) e ∙ simp (tail-part, in-rest)
+module _ (m : List ℕ) (f : Fields) where
+  pub enumerate-is : f ≡ fieldsIn 1 m → Enumerate (f .first) ≡ asked 1 m
+  unfolding asked widthsOf
+  enumerate-is e = ap (λ (g : Fields). Enumerate (g .first)) e ∙ simp in-rest
 
-pub read-is : (m : List ℕ) (f : ReadFields) → f ≡ readOf (bodyOf m) → Read (f .session) (f .offset) (f .count) ≡ asked 3 m
-unfolding asked readOf
-read-is m f e = ap (λ (g : ReadFields). Read (g .session) (g .offset) (g .count)) e ∙ simp (tail-part, in-rest)
+  pub read-is : f ≡ fieldsIn 3 m → Read (f .first) (f .second) (f .third) ≡ asked 3 m
+  unfolding asked widthsOf
+  read-is e = ap (λ (g : Fields). Read (g .first) (g .second) (g .third)) e ∙ simp in-rest
 
-pub write-is : (m : List ℕ) (f : WriteFields) → f ≡ writeOf (bodyOf m) → Write (f .session) (f .offset) (4 + f .rest) ≡ asked 4 m
-unfolding asked writeOf
-write-is m f e = ap (λ (g : WriteFields). Write (g .session) (g .offset) (4 + g .rest)) e ∙ simp (tail-part, in-rest)
+  pub write-is : f ≡ fieldsIn 4 m → Write (f .first) (f .second) (4 + f .rest) ≡ asked 4 m
+  unfolding asked widthsOf
+  write-is e = ap (λ (g : Fields). Write (g .first) (g .second) (4 + g .rest)) e ∙ simp in-rest
 
-pub commit-is : (m : List ℕ) (f : CommitFields) → f ≡ commitOf (bodyOf m) → Commit (f .session) (f .len) (length (bodyOf m) - f .rest) ≡ asked 5 m
-unfolding asked commitOf
-commit-is m f e =
-    let l : length m - 4 - 5 ≡ length m - 9 = omega arith in
-    ap (λ (g : CommitFields). Commit (g .session) (g .len) (length (bodyOf m) - g .rest)) e ∙ simp (tail-part, in-rest, getD-drop, length-drop, l)
+  pub commit-is : f ≡ fieldsIn 5 m → Commit (f .first) (f .second) (length m - (4 + f .rest)) ≡ asked 5 m
+  unfolding asked widthsOf
+  commit-is e = ap (λ (g : Fields). Commit (g .first) (g .second) (length m - (4 + g .rest))) e ∙ simp (in-rest, one)
 
-module _ (m : List ℕ) (f : SessionFields) (e : f ≡ sessionOf (bodyOf m)) where
-  session-is : f .session ≡ little 2 6 m
-  unfolding sessionOf
-  session-is = ap (λ (g : SessionFields). g .session) e ∙ simp (tail-part, in-rest)
+  pub close-is : f ≡ fieldsIn 6 m → Close (f .first) ≡ asked 6 m
+  unfolding asked widthsOf
+  close-is e = ap (λ (g : Fields). Close (g .first)) e ∙ simp in-rest
 
-  pub close-is : Close (f .session) ≡ asked 6 m
-  unfolding asked
-  close-is = ap Close session-is
+  pub session-stat-is : f ≡ fieldsIn 9 m → SessionStat (f .first) ≡ asked 9 m
+  unfolding asked widthsOf
+  session-stat-is e = ap (λ (g : Fields). SessionStat (g .first)) e ∙ simp in-rest
 
-  pub session-stat-is : SessionStat (f .session) ≡ asked 9 m
-  unfolding asked
-  session-stat-is = ap SessionStat session-is
-
-  pub write-meta-is : WriteMeta (f .session) ≡ asked 10 m
-  unfolding asked
-  write-meta-is = ap WriteMeta session-is
+  pub write-meta-is : f ≡ fieldsIn 10 m → WriteMeta (f .first) ≡ asked 10 m
+  unfolding asked widthsOf
+  write-meta-is e = ap (λ (g : Fields). WriteMeta (g .first)) e ∙ simp in-rest
 
 -- ---- names
-pub bad-name : (at : ℕ) (m : List ℕ) (f : Blob → Request) (r : Bool) → r ≡ nameForm (take (length m - at) (drop at m)) → not r ≡ true → refusedWith invalid ≡ withName at m f
+pub bad-name : (at : ℕ) (m : List ℕ) (f : Blob → Request) (r : Bool) → r ≡ nameForm (drop at m) → not r ≡ true → refusedWith invalid ≡ withName at m f
 unfolding withName
-bad-name at m f r e h = let q : nameForm (drop at m) ≡ false = rw tail-part at (flag-false e h) in rw q
+bad-name at m f r e h = rw (flag-false e h)
 
-pub good-name : (at : ℕ) (m : List ℕ) (f : Blob → Request) (r : Bool) (b : Blob) → r ≡ nameForm (take (length m - at) (drop at m)) → not r ≡ false
+pub good-name : (at : ℕ) (m : List ℕ) (f : Blob → Request) (r : Bool) (b : Blob) → r ≡ nameForm (drop at m) → not r ≡ false
     → b ≡ blobNamed at (text (drop at m)) → f b ≡ withName at m f
 unfolding withName
-good-name at m f r b e h p = let q : nameForm (drop at m) ≡ true = rw tail-part at (flag-true e h) in rw (q, p)
+good-name at m f r b e h p = rw (flag-true e h, p)
 
-module _ (m : List ℕ) (f : OpenFields) (e : f ≡ openOf (bodyOf m)) where
-  pub name-at : 4 + f .rest ≡ 8
-  unfolding openOf
-  name-at = ap (λ (g : OpenFields). 4 + g .rest) e
+-- the form of the name behind the numbers, and what it names
+module _ (m : List ℕ) where
+  abbrev formed : Fields → Bool
+  formed f = nameForm (drop (4 + f .rest) m)
 
-  pub flags-are : f .flags ≡ little 2 6 m
-  unfolding openOf
-  flags-are = ap (λ (g : OpenFields). g .flags) e ∙ simp (tail-part, in-rest)
+  abbrev names : Fields → Blob
+  names f = blobNamed (4 + f .rest) (text (drop (4 + f .rest) m))
 
-  pub open-bad : (r : Bool) → r ≡ nameForm (take (length m - (4 + f .rest)) (drop (4 + f .rest) m)) → not r ≡ true → refusedWith invalid ≡ asked 2 m
-  unfolding asked
-  open-bad r p h = bad-name 8 m (λ (b : Blob). Open (little 2 6 m) b) r (simp name-at at p) h
+module _ (m : List ℕ) (f : Fields) (r : Bool) (p : r ≡ formed m f) where
+  module _ (e : f ≡ fieldsIn 2 m) where
+    pub open-bad : not r ≡ true → refusedWith invalid ≡ asked 2 m
+    unfolding asked widthsOf
+    open-bad h = bad-name 8 m (λ (b : Blob). Open (little 2 6 m) b) r (p ∙ ap (formed m) e) h
 
-  pub open-good : (r : Bool) (b : Blob) → r ≡ nameForm (take (length m - (4 + f .rest)) (drop (4 + f .rest) m)) → not r ≡ false
-      → b ≡ blobNamed (4 + f .rest) (text (drop (4 + f .rest) m)) → Open (f .flags) b ≡ asked 2 m
-  unfolding asked
-  open-good r b p h q = rw flags-are (good-name 8 m (λ (x : Blob). Open (little 2 6 m) x) r b (simp name-at at p) h (simp name-at at q))
+    pub open-good : (b : Blob) → not r ≡ false → b ≡ names m f → Open (f .first) b ≡ asked 2 m
+    unfolding asked widthsOf
+    open-good b h q =
+        let flags : f .first ≡ little 2 6 m = ap (λ (g : Fields). g .first) e ∙ simp in-rest in
+        rw flags (good-name 8 m (λ (x : Blob). Open (little 2 6 m) x) r b (p ∙ ap (formed m) e) h (q ∙ ap (names m) e))
 
-module _ (m : List ℕ) (r : Bool) (e : r ≡ nameForm (take (length m - 6) (drop 6 m))) where
-  pub delete-bad : not r ≡ true → refusedWith invalid ≡ asked 7 m
-  unfolding asked
-  delete-bad h = bad-name 6 m (λ (b : Blob). Delete b) r e h
+  -- Delete and Stat have no number: the name follows the CRC
+  module _ (e : f ≡ fieldsIn 7 m) where
+    pub delete-bad : not r ≡ true → refusedWith invalid ≡ asked 7 m
+    unfolding asked widthsOf
+    delete-bad h = bad-name 6 m (λ (b : Blob). Delete b) r (p ∙ ap (formed m) e) h
 
-  pub delete-good : (b : Blob) → not r ≡ false → b ≡ blobNamed 6 (text (drop 6 m)) → Delete b ≡ asked 7 m
-  unfolding asked
-  delete-good b h p = good-name 6 m (λ (x : Blob). Delete x) r b e h p
+    pub delete-good : (b : Blob) → not r ≡ false → b ≡ names m f → Delete b ≡ asked 7 m
+    unfolding asked widthsOf
+    delete-good b h q = good-name 6 m (λ (x : Blob). Delete x) r b (p ∙ ap (formed m) e) h (q ∙ ap (names m) e)
 
-  pub stat-bad : not r ≡ true → refusedWith invalid ≡ asked 8 m
-  unfolding asked
-  stat-bad h = bad-name 6 m (λ (b : Blob). Stat b) r e h
+  module _ (e : f ≡ fieldsIn 8 m) where
+    pub stat-bad : not r ≡ true → refusedWith invalid ≡ asked 8 m
+    unfolding asked widthsOf
+    stat-bad h = bad-name 6 m (λ (b : Blob). Stat b) r (p ∙ ap (formed m) e) h
 
-  pub stat-good : (b : Blob) → not r ≡ false → b ≡ blobNamed 6 (text (drop 6 m)) → Stat b ≡ asked 8 m
-  unfolding asked
-  stat-good b h p = good-name 6 m (λ (x : Blob). Stat x) r b e h p
+    pub stat-good : (b : Blob) → not r ≡ false → b ≡ names m f → Stat b ≡ asked 8 m
+    unfolding asked widthsOf
+    stat-good b h q = good-name 6 m (λ (x : Blob). Stat x) r b (p ∙ ap (formed m) e) h (q ∙ ap (names m) e)

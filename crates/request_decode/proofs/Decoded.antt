@@ -8,15 +8,15 @@ use borrow.Author.Tests.{le-leb, lt-leb}
 use lib.Dec.{eqb, leb}
 use lib.ListN.{length, getD, take, drop}
 use Rattle.laws.specs.All.{flag-true, flag-false}
-use Rattle.laws.specs.Bytes.{little, same}
+use Rattle.laws.specs.Bytes.{same}
 use Rattle.crc.specs.Crc.{crc}
 use Rattle.protocol.specs.declared.Request.{Request}
 use Rattle.protocol.specs.declared.Request.the-variants.{Count}
 use Rattle.protocol.specs.Numbers.{oem, wrongLength, invalid, unknownCommand}
 use Rattle.protocol.specs.Decode.{refusedWith, bodyFits, crcFits, asked, decoded}
-use Rattle.request_names.proofs.Names.{tail-part}
-use Rattle.request_decode.proofs.Fits.{crc-of-body, no-crc, no-body, some-body}
-use Rattle.request_decode.proofs.Asked.{bodyOf}
+use Rattle.request_reader.specs.declared.Fields.{Fields}
+use Rattle.request_decode.specs.Widths.{fieldsIn}
+use Rattle.request_decode.proofs.Fits.{crc-found, no-crc, no-body, some-body}
 
 pub too-few : (m : List ℕ) → length m < 4 → refusedWith wrongLength ≡ decoded m
 unfolding decoded
@@ -59,14 +59,14 @@ module _ (m : List ℕ) (p : Passed m) where
       unfolding asked
       count-is z = sym (after ∙ rw (no-crc m (no-body (getD m 3 0) (length m - 4) z b), z))
 
-      module _ (r : Bool) (e : r ≡ eqb (little 2 0 (bodyOf m)) (crc (drop 2 (bodyOf m)))) (z : getD m 3 0 ≡ 0 → ⊥) where
+      module _ (f : Fields) (e : f ≡ fieldsIn (getD m 3 0) m) (r : Bool) (q : r ≡ eqb (f .crc) (crc (drop 6 m))) (z : getD m 3 0 ≡ 0 → ⊥) where
         crc-is : r ≡ crcFits m
         crc-is =
             let s : 3 ≤ length m - 4 = some-body (getD m 3 0) (length m - 4) z b in
-            (simp tail-part at e) ∙ crc-of-body m (omega arith)
+            q ∙ crc-found (getD m 3 0) m f e (omega arith)
 
         pub wrong-crc : not r ≡ true → refusedWith invalid ≡ decoded m
         wrong-crc n = sym (after ∙ rw (flag-false crc-is n))
 
         pub request-is : (a : Request) → not r ≡ false → a ≡ asked (getD m 3 0) m → a ≡ decoded m
-        request-is a n q = q ∙ sym (after ∙ rw (flag-true crc-is n))
+        request-is a n s = s ∙ sym (after ∙ rw (flag-true crc-is n))

@@ -7,14 +7,12 @@ use native.Mathlib.Omega.{arith}
 use borrow.Author.Tests.{eq-eqb, ne-eqb, eqb-true, leb-true}
 use lib.Dec.{eqb, leb}
 use lib.ListN.{length, take, drop}
-use lib.Seq.{drop-drop}
-use Rattle.laws.specs.Bytes.{little}
 use Rattle.crc.specs.Crc.{crc}
-use Rattle.request_reader.specs.Wire.{crcOf}
-use Rattle.request_reader.specs.declared.CrcField.{CrcField}
+use Rattle.request_reader.specs.declared.Fields.{Fields}
 use Rattle.request_names.proofs.Names.{tail-part}
 use Rattle.request_reader.proofs.Little.{in-rest}
 use Rattle.protocol.specs.Decode.{bodyFits, crcFits}
+use Rattle.request_decode.specs.Widths.{fieldsIn}
 
 -- no body is right for a subcommand that there is not
 pub no-command : (sub n : ℕ) → (sub ≡ 0 → ⊥) → (sub ≡ 1 → ⊥) → (sub ≡ 2 → ⊥) → (sub ≡ 3 → ⊥) → (sub ≡ 4 → ⊥) → (sub ≡ 5 → ⊥) → (sub ≡ 6 → ⊥)
@@ -73,19 +71,15 @@ pub commit-body : (sub n : ℕ) → sub ≡ 5 → bodyFits sub n ≡ true → 5 
 unfolding bodyFits
 commit-body sub n e h = leb-true 5 n (rw e at h)
 
--- the CRC of a body that has one, by the body
-pub crc-of-body : (m : List ℕ) → 4 < length m → eqb (little 2 0 (drop 4 m)) (crc (drop 2 (drop 4 m))) ≡ crcFits m
+-- the CRC of what is lent behind the header and the CRC, by the message
+pub crc-behind : (m : List ℕ) (found r : ℕ) → r ≡ crc (take (length m - 6) (drop 6 m)) → eqb found r ≡ eqb found (crc (drop 6 m))
+crc-behind m found r e = ap (λ (x : ℕ). eqb found x) (e ∙ ap crc (tail-part 6 m))
+
+-- the CRC that the reader found, of a message that has one
+pub crc-found : (sub : ℕ) (m : List ℕ) (f : Fields) → f ≡ fieldsIn sub m → 4 < length m → eqb (f .crc) (crc (drop 6 m)) ≡ crcFits m
 unfolding crcFits
-crc-of-body m h = rw (ne-eqb (length m - 4) 0 (omega arith), in-rest 2 4 m 0, drop-drop 2 4 m)
+crc-found sub m f e h = rw (ne-eqb (length m - 4) 0 (omega arith), ap (λ (g : Fields). g .crc) e, in-rest 2 4 m 0)
 
 pub no-crc : (m : List ℕ) → length m - 4 ≡ 0 → crcFits m ≡ true
 unfolding crcFits
 no-crc m h = rw (eq-eqb (length m - 4) 0 h)
-
--- the CRC and the place behind it, as the reader finds them in a body
-pub crc-found : (b : List ℕ) (f : CrcField) (r : ℕ) → f ≡ crcOf b → r ≡ crc (take (length b - f .rest) (drop (f .rest) b)) → eqb (f .crc) r ≡ eqb (little 2 0 b) (crc (drop 2 b))
-unfolding crcOf
-crc-found b f r e q =
-    ap (λ (x : ℕ). eqb (f .crc) x) q
-    ∙ ap (λ (g : CrcField). eqb (g .crc) (crc (take (length b - g .rest) (drop (g .rest) b)))) e
-    ∙ ap (λ (l : List ℕ). eqb (little 2 0 b) (crc l)) (tail-part 2 b)

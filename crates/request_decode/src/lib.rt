@@ -4,10 +4,12 @@ ghost use mathlib.Core.Bool.{true};
 ghost use Prim.Native.Nat.{_-_, _≤_};
 ghost use lib.Dec.{eqb};
 ghost use lib.ListN.{length, take, drop};
-ghost use Rattle.laws.specs.Bytes.{little, same};
+ghost use Rattle.laws.specs.Bytes.{same};
 ghost use Rattle.crc.specs.Crc.{crc};
 ghost use Rattle.protocol.specs.Numbers.{oem};
+ghost use Rattle.protocol.specs.Names.{nameForm};
 ghost use Rattle.protocol.specs.Decode.{bodyFits, asked, decoded};
+ghost use Rattle.request_decode.specs.Widths.{widths, widthsOf, fieldsIn};
 use protocol::Code;
 use protocol::FIELDS_AT;
 use protocol::HEADER_SIZE;
@@ -15,6 +17,7 @@ use protocol::MESSAGE_SIZE;
 use protocol::OEM_SIZE;
 use protocol::Request;
 use protocol::Subcommand;
+use request_reader::Fields;
 
 // The body's length is right for its subcommand.
 fn body_fits(sub: u8, n: usize) -> bool
@@ -36,15 +39,53 @@ fn body_fits(sub: u8, n: usize) -> bool
     }
 }
 
-// The CRC in front of a body is that of what follows it.
-fn crc_fits(body: &[u8]) -> bool
-    requires { ⌜ 2 ≤ length (now body) ⌝ }
-    ensures { λ r. ⌜ r ≡ eqb (little 2 0 (now (body .entry))) (crc (drop 2 (now (body .entry)))) ⌝ }
+// How many bytes wide the numbers of a subcommand are, in their order.
+struct Widths {
+    first: usize,
+    second: usize,
+    third: usize,
+}
+
+fn bytes_wide(first: usize, second: usize, third: usize) -> Widths
+    ensures { λ r. ⌜ r ≡ widths first second third ⌝ }
 {
-    let f = request_reader::crc_field(body);
-    let at = f.rest;
-    let found = crc::crc16(&body[at..]);
-    f.crc == found
+    Widths {
+        first,
+        second,
+        third,
+    }
+}
+
+// The numbers of each subcommand; behind them stands a name, or bytes, or nothing.
+fn widths_of(sub: u8) -> Widths
+    ensures { λ r. ⌜ r ≡ widthsOf sub ⌝ }
+{
+    match sub {
+        Subcommand::ENUMERATE => bytes_wide(4, 0, 0),
+        Subcommand::READ => bytes_wide(2, 4, 4),
+        Subcommand::WRITE => bytes_wide(2, 4, 0),
+        Subcommand::COMMIT => bytes_wide(2, 1, 0),
+        Subcommand::DELETE => bytes_wide(0, 0, 0),
+        Subcommand::STAT => bytes_wide(0, 0, 0),
+        _ => bytes_wide(2, 0, 0),
+    }
+}
+
+// The CRC and the numbers of a message, read once, from front to back.
+fn fields_of(sub: u8, message: &[u8]) -> Fields
+    requires { ⌜ 4 ≤ length (now message) ⌝ }
+    ensures { λ r. ⌜ r ≡ fieldsIn sub (now (message .entry)) ⌝ }
+{
+    let w = widths_of(sub);
+    request_reader::take_fields(&message[HEADER_SIZE..], w.first, w.second, w.third)
+}
+
+// A CRC that was read is that of the bytes behind it.
+fn crc_fits(found: u32, message: &[u8]) -> bool
+    requires { ⌜ 6 ≤ length (now message) ⌝ }
+    ensures { λ r. ⌜ r ≡ eqb found (crc (drop 6 (now (message .entry)))) ⌝ }
+{
+    found == crc::crc16(&message[FIELDS_AT..]) as u32
 }
 
 // The message starts with the OEM number.
@@ -56,80 +97,71 @@ fn is_oem(message: &[u8]) -> bool
     request_names::same_bytes(&message[..OEM_SIZE], &number)
 }
 
-// The fields of each subcommand that has any.
-fn request_of(sub: u8, message: &[u8]) -> Request
-    requires { ⌜ ((1 ≤ sub) × (sub ≤ 10)) × ((4 ≤ length (now message)) × (bodyFits sub (length (now message) - 4) ≡ true)) ⌝ }
+// A message's rest is a name of the right form.
+fn ends_in_name(message: &[u8], at: usize) -> bool
+    requires { ⌜ at ≤ length (now message) ⌝ }
+    ensures { λ r. ⌜ r ≡ nameForm (drop at (now (message .entry))) ⌝ }
+{
+    request_names::name_form(&message[at..])
+}
+
+// What each subcommand asks that has fields: its numbers, and the name or the bytes that start at the place behind them.
+fn request_of(sub: u8, message: &[u8], f: Fields) -> Request
+    requires { ⌜ ((1 ≤ sub) × (sub ≤ 10)) × ((bodyFits sub (length (now message) - 4) ≡ true) × (f ≡ fieldsIn sub (now message))) ⌝ }
     ensures { λ r. ⌜ r ≡ asked sub (now (message .entry)) ⌝ }
 {
-    let body = &message[HEADER_SIZE..];
+    let at = HEADER_SIZE + f.rest;
     match sub {
-        Subcommand::ENUMERATE => {
-            let f = request_reader::index_fields(body);
-            Request::Enumerate { index: f.index }
-        }
+        Subcommand::ENUMERATE => Request::Enumerate { index: f.first },
         Subcommand::OPEN => {
-            let f = request_reader::open_fields(body);
-            let at = HEADER_SIZE + f.rest;
-            if !request_names::name_form(&message[at..]) {
+            if !ends_in_name(message, at) {
                 return Request::Refused(Code::INVALID);
             }
             Request::Open {
-                flags: f.flags,
+                flags: f.first as u16,
                 blob: request_names::blob_at(message, at),
             }
         }
-        Subcommand::READ => {
-            let f = request_reader::read_fields(body);
-            Request::Read {
-                session: f.session,
-                offset: f.offset,
-                count: f.count,
-            }
-        }
-        Subcommand::WRITE => {
-            let f = request_reader::write_fields(body);
-            Request::Write {
-                session: f.session,
-                offset: f.offset,
-                start: HEADER_SIZE + f.rest,
-            }
-        }
-        Subcommand::COMMIT => {
-            let f = request_reader::commit_fields(body);
-            Request::Commit {
-                session: f.session,
-                len: f.len,
-                rest: body.len() - f.rest,
-            }
-        }
-        Subcommand::CLOSE => {
-            let f = request_reader::session_fields(body);
-            Request::Close { session: f.session }
-        }
+        Subcommand::READ => Request::Read {
+            session: f.first as u16,
+            offset: f.second,
+            count: f.third,
+        },
+        Subcommand::WRITE => Request::Write {
+            session: f.first as u16,
+            offset: f.second,
+            start: at,
+        },
+        Subcommand::COMMIT => Request::Commit {
+            session: f.first as u16,
+            len: f.second as u8,
+            rest: message.len() - at,
+        },
+        Subcommand::CLOSE => Request::Close {
+            session: f.first as u16,
+        },
         Subcommand::DELETE => {
-            if !request_names::name_form(&message[FIELDS_AT..]) {
+            if !ends_in_name(message, at) {
                 return Request::Refused(Code::INVALID);
             }
             Request::Delete {
-                blob: request_names::blob_at(message, FIELDS_AT),
+                blob: request_names::blob_at(message, at),
             }
         }
         Subcommand::STAT => {
-            if !request_names::name_form(&message[FIELDS_AT..]) {
+            if !ends_in_name(message, at) {
                 return Request::Refused(Code::INVALID);
             }
             Request::Stat {
-                blob: request_names::blob_at(message, FIELDS_AT),
+                blob: request_names::blob_at(message, at),
             }
         }
-        Subcommand::SESSION_STAT => {
-            let f = request_reader::session_fields(body);
-            Request::SessionStat { session: f.session }
-        }
-        _ => {
-            let f = request_reader::session_fields(body);
-            Request::WriteMeta { session: f.session }
-        }
+        Subcommand::SESSION_STAT => Request::SessionStat {
+            session: f.first as u16,
+        },
+        _ => Request::WriteMeta {
+            session: f.first as u16,
+        },
     }
 }
 
@@ -157,8 +189,9 @@ pub fn decode(message: &[u8]) -> Request
     if sub == Subcommand::COUNT {
         return Request::Count;
     }
-    if !crc_fits(&message[HEADER_SIZE..]) {
+    let f = fields_of(sub, message);
+    if !crc_fits(f.crc, message) {
         return Request::Refused(Code::INVALID);
     }
-    request_of(sub, message)
+    request_of(sub, message, f)
 }

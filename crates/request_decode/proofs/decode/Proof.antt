@@ -8,7 +8,6 @@ use native.Mathlib.Omega.{arith}
 use denote.Ref.{now}
 use Rattle.laws.specs.All.{flag-true}
 use Rattle.request_decode.proofs.Fits.{some-body}
-use Rattle.request_decode.proofs.Asked.{body-length}
 use Rattle.request_decode.proofs.Decoded.{Passed, too-few, too-many, not-ours, passes, no-command, wrong-body, count-is, wrong-crc, request-is}
 use borrow.Author.Needs.{needs}
 use Rattle.request_decode.proofs.decode.Statement.{statement}
@@ -36,17 +35,17 @@ in-else3₂ c = c .before .before .before
 abbrev in-else4 : tie.Else5 → tie.Else4
 in-else4 c = c .before .before
 
-abbrev in-else5 : tie.After-crc-fits → tie.Else5
-in-else5 c = c .before .before .before
+abbrev in-else5 : tie.After-fields-of → tie.Else5
+in-else5 c = c .before .before
 
-abbrev in-else5₂ : tie.Then7 → tie.Else5
-in-else5₂ c = c .before .before .before .before
+abbrev in-else6 : tie.After-fields-of → tie.Else6
+in-else6 c = c .before
 
-abbrev in-else5₃ : tie.After-request-of → tie.Else5
-in-else5₃ c = c .before .before .before .before .before
+abbrev at-fields-of : tie.Then7 → tie.After-fields-of
+at-fields-of c = c .before .before
 
-abbrev in-else6 : tie.After-crc-fits → tie.Else6
-in-else6 c = c .before .before
+abbrev at-fields-of₂ : tie.Else7 → tie.After-fields-of
+at-fields-of₂ c = c .before .before
 
 -- what the tests passed so far say, at the place where the OEM number is right, and where the body's length is
 passed : (c : tie.Else3) → Passed (now (entry (in-else2₂ c) .args .message))
@@ -82,30 +81,27 @@ returns-5 c = wrong-body _ (passed (in-else3 c)) (c .before .before .if4 .left) 
 returns-6 : tie.Need-returns-6
 returns-6 c = count-is _ (passed (in-else3₂ (c .before))) (in-else4 (c .before) .if4 .left) (fits (c .before)) (c .if6 .taken)
 
-sub-crc-fits : tie.Need-sub-crc-fits
-sub-crc-fits c = search needs
-
-part-crc-fits-start : tie.Need-part-crc-fits-start
-part-crc-fits-start c = search needs
-
-part-crc-fits-end : tie.Need-part-crc-fits-end
-part-crc-fits-end c = search needs
+fields-of-requires : tie.Need-fields-of-requires
+fields-of-requires c κs = search needs
 
 crc-fits-requires : tie.Need-crc-fits-requires
-crc-fits-requires c κs = omega (arith, body-length (now (entry₂ (c .before .before) .args .message)), some-body _ _ (c .before .if6 .left) (fits (c .before .before)))
+crc-fits-requires c κs = omega (arith, some-body _ _ (in-else6 c .if6 .left) (fits (in-else5 c)))
 
 returns-7 : tie.Need-returns-7
 returns-7 c =
-    let else5 = in-else5₂ c in
-    wrong-crc _ (passed (in-else3₂ else5)) (in-else4 else5 .if4 .left) (fits else5) _ (c .before .crc-fits .ensures) (in-else6 (c .before) .if6 .left) (c .if7 .taken)
+    let read = at-fields-of c in
+    let else5 = in-else5 read in
+    wrong-crc _ (passed (in-else3₂ else5)) (in-else4 else5 .if4 .left) (fits else5) _ (read .fields-of .ensures) _ (c .before .crc-fits .ensures) (in-else6 read .if6 .left)
+    (c .if7 .taken)
 
 request-of-requires : tie.Need-request-of-requires
-request-of-requires c κs = ((omega arith, omega arith), (omega arith, fits (in-else5 (c .before))))
+request-of-requires c κs = ((omega arith, omega arith), (fits (in-else5 (at-fields-of₂ c)), at-fields-of₂ c .fields-of .ensures))
 
 returns-8 : tie.Need-returns-8
 returns-8 c =
-    let else5 = in-else5₃ c in
-    request-is _ (passed (in-else3₂ else5)) (in-else4 else5 .if4 .left) (fits else5) _ (c .before .before .crc-fits .ensures) (in-else6 (c .before .before) .if6 .left) _
+    let read = at-fields-of₂ (c .before) in
+    let else5 = in-else5 read in
+    request-is _ (passed (in-else3₂ else5)) (in-else4 else5 .if4 .left) (fits else5) _ (read .fields-of .ensures) _ (c .before .before .crc-fits .ensures) (in-else6 read .if6 .left) _
     (c .before .if7 .left) (c .request-of .ensures)
 
 pub decode-spec : {M : Type 1} → statement M
@@ -121,9 +117,7 @@ decode-spec =
     body-fits-requires
     returns-5
     returns-6
-    sub-crc-fits
-    part-crc-fits-start
-    part-crc-fits-end
+    fields-of-requires
     crc-fits-requires
     returns-7
     request-of-requires

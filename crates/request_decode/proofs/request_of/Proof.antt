@@ -1,14 +1,16 @@
--- `request_decode::request_of` meets its contract: each arm knows the subcommand, and what its reader found. Assumes nothing.
-use mathlib.Core.Path.{ap}
+-- `request_decode::request_of` meets its contract: each arm knows the subcommand, and what the reader found. Assumes nothing.
+use mathlib.Core.Path.{_≡_, ap, _∙_}
+use Prim.Native.Nat.{ℕ, _+_, _<_, _≤_, _^_}
 use native.Mathlib.Omega.{arith}
+use lib.ListN.{length, drop}
 use denote.Ref.{now}
-use Rattle.request_reader.specs.Wire.{writeOf, commitOf}
-use Rattle.request_reader.specs.declared.WriteFields.{WriteFields}
-use Rattle.request_reader.specs.declared.CommitFields.{CommitFields}
+use Rattle.laws.specs.Bytes.{little}
+use Rattle.request_reader.specs.declared.Fields.{Fields}
+use Rattle.request_decode.specs.Widths.{widthsOf, fieldsIn}
 use Rattle.request_decode.proofs.Fits.{open-body, commit-body, name-body, ten}
 use Rattle.request_decode.proofs.Asked.{
-  body-length,
-  name-at,
+  near,
+  fits,
   enumerate-is,
   read-is,
   write-is,
@@ -23,224 +25,185 @@ use Rattle.request_decode.proofs.Asked.{
   stat-bad,
   stat-good,
 }
-use borrow.Author.Needs.{needs}
 use Rattle.request_decode.proofs.request_of.Statement.{statement}
 use Rattle.request_decode.proofs.request_of.Tie as tie
 
 -- the places that the answers read
-abbrev entry : tie.After-body → tie.Start
+abbrev entry : tie.After-struct-known → tie.Start
 entry c = c .before .before
 
-abbrev entry₂ : tie.After-open-fields → tie.Start
-entry₂ c = c .before .before .before .before
+abbrev in-open : tie.After-ends-in-name → tie.At-match-keys2
+in-open c = c .before
 
-abbrev entry₃ : tie.After-struct-known3 → tie.Start
-entry₃ c = c .before .before .before .before .before
+abbrev in-else1 : tie.After-blob-at → tie.Else1
+in-else1 c = c .before .before
 
-abbrev entry₄ : tie.Else2 → tie.Start
-entry₄ c = c .before .before .before .before .before .before
+abbrev in-commit : tie.After-struct-known6 → tie.At-match-keys5
+in-commit c = c .before .before
 
-abbrev entry₅ : tie.Else3 → tie.Start
-entry₅ c = c .before .before .before .before .before .before
+abbrev in-delete : tie.After-ends-in-name2 → tie.At-match-keys7
+in-delete c = c .before
 
-abbrev at-open-fields : tie.Then1 → tie.After-open-fields
-at-open-fields c = c .before .before .before .before
+abbrev in-stat : tie.After-ends-in-name3 → tie.At-match-keys8
+in-stat c = c .before
 
-abbrev at-open-fields₂ : tie.Else1 → tie.After-open-fields
-at-open-fields₂ c = c .before .before .before .before
+-- what the reader found, once the subcommand is known
+read : (c : tie.After-struct-known) (k : ℕ) → entry c .args .sub ≡ k → entry c .args .f ≡ fieldsIn k (now (entry c .args .message))
+read c k e = entry c .pre .1 .1 ∙ ap (λ (x : ℕ). fieldsIn x (now (entry c .args .message))) e
 
-abbrev at-open-fields₃ : tie.After-blob-at → tie.After-open-fields
-at-open-fields₃ c = c .before .before .before .before .before
+-- a number of n bytes fits n bytes
+narrow : (c : tie.After-struct-known) (n at v : ℕ) → v ≡ little n at (drop 4 (now (entry c .args .message))) → v < 256 ^ n
+narrow c n at v e = fits (now (entry c .args .message)) (λ (i : ℕ). c .before .shared-slice-known .given i .fits) n at v e
 
-abbrev at-match-keys7 : tie.After-name-form2 → tie.At-match-keys7
-at-match-keys7 c = c .before .before
+-- the first number where it has two bytes
+session : (c : tie.After-struct-known) → entry c .args .f .first ≡ little 2 2 (drop 4 (now (entry c .args .message))) → entry c .args .f .first < 65536
+session c e = narrow c 2 2 _ e
 
-abbrev at-match-keys8 : tie.After-name-form3 → tie.At-match-keys8
-at-match-keys8 c = c .before .before
+-- where the name starts, and what follows Commit's length byte, lies in the message
+open-rest : (c : tie.At-match-keys2) → 4 + entry (c .before) .args .f .rest ≤ length (now (entry (c .before) .args .message))
+unfolding widthsOf
+open-rest c = omega (arith, ap (λ (g : Fields). g .rest) (read (c .before) 2 (c .match .keys2)), open-body _ _ (c .match .keys2) (entry (c .before) .pre .1 .0))
 
-sub-body : tie.Need-sub-body
-sub-body c = search needs
+commit-rest : (c : tie.At-match-keys5) → 4 + entry (c .before) .args .f .rest ≤ length (now (entry (c .before) .args .message))
+unfolding widthsOf
+commit-rest c = omega (arith, ap (λ (g : Fields). g .rest) (read (c .before) 5 (c .match .keys5)), commit-body _ _ (c .match .keys5) (entry (c .before) .pre .1 .0))
 
-part-body-start : tie.Need-part-body-start
-part-body-start c = search needs
+delete-rest : (c : tie.At-match-keys7) → 4 + entry (c .before) .args .f .rest ≤ length (now (entry (c .before) .args .message))
+unfolding widthsOf
+delete-rest c = omega (arith, ap (λ (g : Fields). g .rest) (read (c .before) 7 (c .match .keys7)), name-body 6 _ _ (c .match .keys7) (entry (c .before) .pre .1 .0))
 
-part-body-end : tie.Need-part-body-end
-part-body-end c = search needs
+stat-rest : (c : tie.At-match-keys8) → 4 + entry (c .before) .args .f .rest ≤ length (now (entry (c .before) .args .message))
+unfolding widthsOf
+stat-rest c = omega (arith, ap (λ (g : Fields). g .rest) (read (c .before) 8 (c .match .keys8)), name-body 7 _ _ (c .match .keys8) (entry (c .before) .pre .1 .0))
 
-index-fields-requires : tie.Need-index-fields-requires
-index-fields-requires c κs = search needs
-
-open-fields-requires : tie.Need-open-fields-requires
-open-fields-requires c κs = search needs
+-- the arm that is left is the last subcommand's
+last : (c : tie.At-match-rest) → entry (c .before) .args .sub ≡ 10
+last c =
+    let n = c .match .rest in
+    ten _ (entry (c .before) .pre .0 .0) (entry (c .before) .pre .0 .1) (n .0 .0 .0 .0 .0 .0 .0 .0 .1) (n .0 .0 .0 .0 .0 .0 .0 .1) (n .0 .0 .0 .0 .0 .0 .1)
+    (n .0 .0 .0 .0 .0 .1) (n .0 .0 .0 .0 .1) (n .0 .0 .0 .1) (n .0 .0 .1) (n .0 .1) (n .1)
 
 add-at : tie.Need-add-at
-add-at c = omega (arith, name-at (now (entry₂ (c .before) .args .message)) _ (c .before .open-fields .ensures))
+add-at c = omega (arith, near _ (now (entry c .args .message)) _ (entry c .pre .1 .1))
 
-sub-name-form : tie.Need-sub-name-form
-sub-name-form c = omega (arith, name-at (now (entry₂ (c .before) .args .message)) _ (c .before .open-fields .ensures), open-body _ _ (c .before .before .match .keys2) (entry₂ (c .before) .pre .1 .1))
-
-part-name-form-start : tie.Need-part-name-form-start
-part-name-form-start c =
-    omega (arith, name-at (now (entry₂ (c .before) .args .message)) _ (c .before .open-fields .ensures), open-body _ _ (c .before .before .match .keys2) (entry₂ (c .before) .pre .1 .1))
-
-part-name-form-end : tie.Need-part-name-form-end
-part-name-form-end c = search needs
-
-name-form-requires : tie.Need-name-form-requires
-name-form-requires c κs = search needs
+ends-in-name-requires : tie.Need-ends-in-name-requires
+ends-in-name-requires c κs = open-rest c
 
 returns : tie.Need-returns
-returns c = rw (at-open-fields c .before .match .keys2) (open-bad _ _ (at-open-fields c .open-fields .ensures) _ (c .before .name-form .ensures) (c .if1 .taken))
+returns c = let arm = in-open (c .before) in rw (arm .match .keys2) (open-bad _ _ _ (c .before .ends-in-name .ensures) (read (arm .before) 2 (arm .match .keys2)) (c .if1 .taken))
+
+cast-t9 : tie.Need-cast-t9
+unfolding widthsOf
+cast-t9 c = let arm = in-open (c .before .before) in record { fits = session (arm .before) (ap (λ (g : Fields). g .first) (read (arm .before) 2 (arm .match .keys2))) }
 
 blob-at-requires : tie.Need-blob-at-requires
-blob-at-requires c κs =
-    omega (
-      arith,
-      name-at (now (entry₂ (at-open-fields₂ c) .args .message)) _ (at-open-fields₂ c .open-fields .ensures),
-      open-body _ _ (at-open-fields₂ c .before .match .keys2)
-          (entry₂ (at-open-fields₂ c) .pre .1 .1),
-    )
+blob-at-requires c κs = open-rest (in-open (c .before .before))
 
-read-fields-requires : tie.Need-read-fields-requires
-read-fields-requires c κs = search needs
+cast-t11 : tie.Need-cast-t11
+unfolding widthsOf
+cast-t11 c = let arm = c .before in record { fits = session (arm .before) (ap (λ (g : Fields). g .first) (read (arm .before) 3 (arm .match .keys3))) }
 
-write-fields-requires : tie.Need-write-fields-requires
-write-fields-requires c κs = search needs
+cast-t12 : tie.Need-cast-t12
+unfolding widthsOf
+cast-t12 c = let arm = c .before in record { fits = session (arm .before) (ap (λ (g : Fields). g .first) (read (arm .before) 4 (arm .match .keys4))) }
 
-add-t25 : tie.Need-add-t25
-unfolding writeOf
-add-t25 c = omega (arith, ap (λ (f : WriteFields). f .rest) (c .before .write-fields .ensures))
+cast-t13 : tie.Need-cast-t13
+unfolding widthsOf
+cast-t13 c = let arm = c .before in record { fits = session (arm .before) (ap (λ (g : Fields). g .first) (read (arm .before) 5 (arm .match .keys5))) }
 
-commit-fields-requires : tie.Need-commit-fields-requires
-commit-fields-requires c κs = search needs
+cast-t14 : tie.Need-cast-t14
+unfolding widthsOf
+cast-t14 c = let arm = in-commit c in record { fits = narrow (arm .before) 1 4 _ (ap (λ (g : Fields). g .second) (read (arm .before) 5 (arm .match .keys5))) }
 
-sub-t27 : tie.Need-sub-t27
-unfolding commitOf
-sub-t27 c =
-    omega (
-      arith,
-      ap (λ (f : CommitFields). f .rest) (c .before .commit-fields .ensures),
-      commit-body _ _ (c .before .before .match .keys5) (entry₃ c .pre .1 .1),
-      body-length
-          (now (entry₃ c .args .message)),
-    )
+sub-t16 : tie.Need-sub-t16
+sub-t16 c = commit-rest (in-commit c)
 
-session-fields-requires : tie.Need-session-fields-requires
-session-fields-requires c κs = search needs
+cast-t17 : tie.Need-cast-t17
+unfolding widthsOf
+cast-t17 c = let arm = c .before in record { fits = session (arm .before) (ap (λ (g : Fields). g .first) (read (arm .before) 6 (arm .match .keys6))) }
 
-sub-name-form-2 : tie.Need-sub-name-form-2
-sub-name-form-2 c = omega (arith, name-body 6 _ _ (c .match .keys7) (entry (c .before) .pre .1 .1))
-
-part-name-form-start-2 : tie.Need-part-name-form-start-2
-part-name-form-start-2 c = omega (arith, name-body 6 _ _ (c .match .keys7) (entry (c .before) .pre .1 .1))
-
-part-name-form-end-2 : tie.Need-part-name-form-end-2
-part-name-form-end-2 c = search needs
-
-name-form-requires-2 : tie.Need-name-form-requires-2
-name-form-requires-2 c κs = search needs
+ends-in-name-requires-2 : tie.Need-ends-in-name-requires-2
+ends-in-name-requires-2 c κs = delete-rest c
 
 returns-2 : tie.Need-returns-2
-returns-2 c = rw (at-match-keys7 (c .before) .match .keys7) (delete-bad _ _ (c .before .name-form2 .ensures) (c .if2 .taken))
+returns-2 c = let arm = in-delete (c .before) in rw (arm .match .keys7) (delete-bad _ _ _ (c .before .ends-in-name2 .ensures) (read (arm .before) 7 (arm .match .keys7)) (c .if2 .taken))
 
 blob-at-requires-2 : tie.Need-blob-at-requires-2
-blob-at-requires-2 c κs = omega (arith, name-body 6 _ _ (at-match-keys7 (c .before) .match .keys7) (entry₄ c .pre .1 .1))
+blob-at-requires-2 c κs = delete-rest (in-delete (c .before))
 
-sub-name-form-3 : tie.Need-sub-name-form-3
-sub-name-form-3 c = omega (arith, name-body 7 _ _ (c .match .keys8) (entry (c .before) .pre .1 .1))
-
-part-name-form-start-3 : tie.Need-part-name-form-start-3
-part-name-form-start-3 c = omega (arith, name-body 7 _ _ (c .match .keys8) (entry (c .before) .pre .1 .1))
-
-part-name-form-end-3 : tie.Need-part-name-form-end-3
-part-name-form-end-3 c = search needs
-
-name-form-requires-3 : tie.Need-name-form-requires-3
-name-form-requires-3 c κs = search needs
+ends-in-name-requires-3 : tie.Need-ends-in-name-requires-3
+ends-in-name-requires-3 c κs = stat-rest c
 
 returns-3 : tie.Need-returns-3
-returns-3 c = rw (at-match-keys8 (c .before) .match .keys8) (stat-bad _ _ (c .before .name-form3 .ensures) (c .if3 .taken))
+returns-3 c = let arm = in-stat (c .before) in rw (arm .match .keys8) (stat-bad _ _ _ (c .before .ends-in-name3 .ensures) (read (arm .before) 8 (arm .match .keys8)) (c .if3 .taken))
 
 blob-at-requires-3 : tie.Need-blob-at-requires-3
-blob-at-requires-3 c κs = omega (arith, name-body 7 _ _ (at-match-keys8 (c .before) .match .keys8) (entry₅ c .pre .1 .1))
+blob-at-requires-3 c κs = stat-rest (in-stat (c .before))
 
-session-fields-requires-2 : tie.Need-session-fields-requires-2
-session-fields-requires-2 c κs = search needs
+cast-t26 : tie.Need-cast-t26
+unfolding widthsOf
+cast-t26 c = let arm = c .before in record { fits = session (arm .before) (ap (λ (g : Fields). g .first) (read (arm .before) 9 (arm .match .keys9))) }
 
-session-fields-requires-3 : tie.Need-session-fields-requires-3
-session-fields-requires-3 c κs = search needs
+cast-t27 : tie.Need-cast-t27
+unfolding widthsOf
+cast-t27 c = let arm = c .before in record { fits = session (arm .before) (ap (λ (g : Fields). g .first) (read (arm .before) 10 (last arm))) }
 
 returns-4 : tie.Need-returns-4
-returns-4 c = rw (c .before .match .keys1) (enumerate-is _ _ (c .index-fields .ensures))
+returns-4 c = rw (c .match .keys1) (enumerate-is _ _ (read (c .before) 1 (c .match .keys1)))
 
 returns-5 : tie.Need-returns-5
 returns-5 c =
-    rw (at-open-fields₃ c .before .match .keys2) (open-good _ _ (at-open-fields₃ c .open-fields .ensures) _ _ (c .before .before .name-form .ensures) (c .before .if1 .left) (c .blob-at .ensures))
+    let else1 = in-else1 c in
+    let arm = in-open (else1 .before) in
+    rw (arm .match .keys2) (open-good _ _ _ (else1 .before .ends-in-name .ensures) (read (arm .before) 2 (arm .match .keys2)) _ (else1 .if1 .left) (c .blob-at .ensures))
 
 returns-6 : tie.Need-returns-6
-returns-6 c = rw (c .before .match .keys3) (read-is _ _ (c .read-fields .ensures))
+returns-6 c = let arm = c .before in rw (arm .match .keys3) (read-is _ _ (read (arm .before) 3 (arm .match .keys3)))
 
 returns-7 : tie.Need-returns-7
-returns-7 c = rw (c .before .before .match .keys4) (write-is _ _ (c .before .write-fields .ensures))
+returns-7 c = let arm = c .before in rw (arm .match .keys4) (write-is _ _ (read (arm .before) 4 (arm .match .keys4)))
 
 returns-8 : tie.Need-returns-8
-returns-8 c = rw (c .before .before .match .keys5) (commit-is _ _ (c .before .commit-fields .ensures))
+returns-8 c = let arm = in-commit c in rw (arm .match .keys5) (commit-is _ _ (read (arm .before) 5 (arm .match .keys5)))
 
 returns-9 : tie.Need-returns-9
-returns-9 c = rw (c .before .match .keys6) (close-is _ _ (c .session-fields .ensures))
+returns-9 c = let arm = c .before in rw (arm .match .keys6) (close-is _ _ (read (arm .before) 6 (arm .match .keys6)))
 
 returns-10 : tie.Need-returns-10
-returns-10 c = rw (at-match-keys7 (c .before .before) .match .keys7) (delete-good _ _ (c .before .before .name-form2 .ensures) _ (c .before .if2 .left) (c .blob-at2 .ensures))
+returns-10 c = let arm = in-delete (c .before .before) in rw (arm .match .keys7) (delete-good _ _ _ (c .before .before .ends-in-name2 .ensures) (read (arm .before) 7 (arm .match .keys7)) _ (c .before .if2 .left) (c .blob-at2 .ensures))
 
 returns-11 : tie.Need-returns-11
-returns-11 c = rw (at-match-keys8 (c .before .before) .match .keys8) (stat-good _ _ (c .before .before .name-form3 .ensures) _ (c .before .if3 .left) (c .blob-at3 .ensures))
+returns-11 c = let arm = in-stat (c .before .before) in rw (arm .match .keys8) (stat-good _ _ _ (c .before .before .ends-in-name3 .ensures) (read (arm .before) 8 (arm .match .keys8)) _ (c .before .if3 .left) (c .blob-at3 .ensures))
 
 returns-12 : tie.Need-returns-12
-returns-12 c = rw (c .before .match .keys9) (session-stat-is _ _ (c .session-fields2 .ensures))
+returns-12 c = let arm = c .before in rw (arm .match .keys9) (session-stat-is _ _ (read (arm .before) 9 (arm .match .keys9)))
 
 returns-13 : tie.Need-returns-13
-returns-13 c =
-    rw (ten _ (entry (c .before .before) .pre .0 .0) (entry (c .before .before) .pre .0 .1) (c .before .match .rest .0 .0 .0 .0 .0 .0 .0 .0 .1)
-    (c .before .match .rest .0 .0 .0 .0 .0 .0 .0 .1) (c .before .match .rest .0 .0 .0 .0 .0 .0 .1) (c .before .match .rest .0 .0 .0 .0 .0 .1)
-    (c .before .match .rest .0 .0 .0 .0 .1) (c .before .match .rest .0 .0 .0 .1) (c .before .match .rest .0 .0 .1) (c .before .match .rest .0 .1) (c .before .match .rest .1))
-    (write-meta-is _ _ (c .session-fields3 .ensures))
+returns-13 c = let arm = c .before in rw (last arm) (write-meta-is _ _ (read (arm .before) 10 (last arm)))
 
 pub request-of-spec : {M : Type 1} → statement M
 request-of-spec =
     tie.close
     (tie.spec
-    sub-body
-    part-body-start
-    part-body-end
-    index-fields-requires
-    open-fields-requires
     add-at
-    sub-name-form
-    part-name-form-start
-    part-name-form-end
-    name-form-requires
+    ends-in-name-requires
     returns
+    cast-t9
     blob-at-requires
-    read-fields-requires
-    write-fields-requires
-    add-t25
-    commit-fields-requires
-    sub-t27
-    session-fields-requires
-    sub-name-form-2
-    part-name-form-start-2
-    part-name-form-end-2
-    name-form-requires-2
+    cast-t11
+    cast-t12
+    cast-t13
+    cast-t14
+    sub-t16
+    cast-t17
+    ends-in-name-requires-2
     returns-2
     blob-at-requires-2
-    sub-name-form-3
-    part-name-form-start-3
-    part-name-form-end-3
-    name-form-requires-3
+    ends-in-name-requires-3
     returns-3
     blob-at-requires-3
-    session-fields-requires-2
-    session-fields-requires-3
+    cast-t26
+    cast-t27
     returns-4
     returns-5
     returns-6
