@@ -11,6 +11,7 @@ ghost use Rattle.session_row.specs.Write.{written, saidBy, lengthBy, reg
 use memory_copy::copy_at;
 use protocol::BlobState;
 use protocol::Code;
+use protocol::Flags;
 use response_types::Said;
 use state::Status;
 use state::numbers::max_u32;
@@ -85,9 +86,6 @@ pub fn commit_fits(len: u8, rest: usize) -> bool
     (len as usize == rest) & (len == 0)
 }
 
-// What the session's flags are in its state bits: bits 0 and 1.
-const FLAG_BITS: u32 = 4;
-
 // The bit, or none.
 fn bit_if(on: bool, bit: BlobState) -> u16
     ensures { λ x. ⌜ (x ≡ cond on (bit .0) 0) × (x ≤ bit .0) ⌝ }
@@ -101,11 +99,16 @@ pub fn state_bits(e: Entry) -> u16
 {
     let status = e.status();
     let clean = e.clean();
+    let reading = bit_if(
+        e.flags() / Flags::READ.0 as u32 % 2 == 1,
+        BlobState::OPEN_READ,
+    );
+    let writing = bit_if(e.writes(), BlobState::OPEN_WRITE);
     let committing = bit_if(status == Status::RUNNING, BlobState::COMMITTING);
     let committed = bit_if(
         (status == Status::SUCCEEDED) | (clean == 1),
         BlobState::COMMITTED,
     );
     let failed = bit_if(status == Status::FAILED, BlobState::COMMIT_ERROR);
-    (e.flags() % FLAG_BITS) as u16 + (committing + (committed + failed))
+    reading + (writing + (committing + (committed + failed)))
 }
