@@ -17,6 +17,7 @@ use Rattle.state.specs.declared.row.Wanted.the-variants.{OnFlash}
 use Rattle.rules.specs.Session.{onSession}
 use Rattle.rules.specs.Respond.{Effect, effectOf, unsound, answered, respond, silent, jobOutcome, Served, servedWith, served}
 use Rattle.rules.specs.Laws.{respond-is, job-is}
+use Rattle.request_serve.specs.Serves.{readied, ready-over}
 
 -- the answer buffer has another length
 pub other-buffer : (t : ℕ) (m : List ℕ) (s : State) (a : List ℕ) → (length a ≡ answerSize → ⊥) → record { code = notSound; len = 0; state = s; answer = a } ≡ served t m s a
@@ -36,8 +37,14 @@ module _ (t : ℕ) (m : List ℕ) (s : State) (a : List ℕ) (h : length a ≡ a
       ∙ ap (λ (y : Bool). servedWith (cond y (effectOf (framed (numberOf (decoded m)) (answered (decoded m) t m s .0)) (answered (decoded m) t m s .1)) (unsound s)) a) g)
 
   -- it is: what the command answered and left, b being the answer buffer after it, is written into the answer buffer
-  module _ (g : isSound s ≡ true) (q : Request) (e : q ≡ decoded m) (r : Reply) (s′ : State) (b : List ℕ) (did : (r, s′) ≡ answered q t m s)
-      (over : (sub : ℕ) → answerAfter sub (answered q t m s .0) b ≡ answerAfter sub (answered q t m s .0) a) (number : ℕ) (named : number ≡ numberOf q) where
+  module _ (g : isSound s ≡ true) (q : Request) (e : q ≡ decoded m) (r : Reply) (s′ : State) (b : List ℕ) (ready : ((r, s′), b) ≡ readied q t m s a)
+      (number : ℕ) (named : number ≡ numberOf q) where
+    did : (r, s′) ≡ answered q t m s
+    did = ap (λ (x : (Reply × State) × List ℕ). x .0) ready
+
+    over : (sub : ℕ) → answerAfter sub (answered q t m s .0) b ≡ answerAfter sub (answered q t m s .0) a
+    over = ready-over q t m s a b (ap (λ (x : (Reply × State) × List ℕ). x .1) ready)
+
     said : framed number r ≡ framed (numberOf (decoded m)) (answered (decoded m) t m s .0)
     said = ap₂ framed (named ∙ ap numberOf e) (ap (λ (x : Reply × State). x .0) did ∙ ap (λ (x : Request). answered x t m s .0) e)
 

@@ -1,18 +1,20 @@
 // One request on a sound state: each command's code is called with what it touches.
 ghost use mathlib.Core.Path.{_≡_};
 ghost use mathlib.Core.Bool.{true};
+ghost use Prim.Native.Nat.{_≤_};
+ghost use Rattle.protocol.specs.Numbers.{readMost};
 ghost use Rattle.protocol.specs.Decode.{decoded};
 ghost use Rattle.state.specs.State.{stateOf};
 ghost use Rattle.state.specs.Soundness.{isSound};
 ghost use Rattle.state.specs.Lent.{AnswerLent};
-ghost use Rattle.rules.specs.Respond.{answered};
-ghost use Rattle.response_types.specs.After.{afterAct};
-ghost use Rattle.request_serve.specs.Serves.{Serves};
+ghost use Rattle.response_types.specs.After.{afterAct, fieldsLength};
+ghost use Rattle.request_serve.specs.Serves.{readied};
 use protocol::Request;
 use response_types::Act;
 use state::Control;
 
-// What the request comes to: what is said, the control block, and the fields of Read and Enumerate in their place in the answer buffer.
+// What the request comes to: what is said, and the control block. Read and Enumerate lay their fields into their place in the answer
+// buffer; no other byte of it changes.
 pub fn serve(
     message: &[u8],
     clock: u32,
@@ -27,7 +29,7 @@ pub fn serve(
     answer: &mut [u8],
 ) -> Act
     requires { ⌜ (isSound (stateOf control (now table) (now names) (now committed) (now staged) (now image) (now hash)) ≡ true) × ((asked ≡ decoded (now message)) × AnswerLent (now answer)) ⌝ }
-    ensures { λ o. ⌜ Serves (o .said) (afterAct o (now (table .exit)) (now (names .exit)) (now (committed .exit)) (now (staged .exit)) (now (image .exit)) (now (hash .exit)) (now (answer .exit))) (answered asked clock (now (message .entry)) (stateOf control (now (table .entry)) (now (names .entry)) (now (committed .entry)) (now (staged .entry)) (now (image .entry)) (now (hash .entry)))) (now (answer .entry)) (now (answer .exit)) ⌝ }
+    ensures { λ o. ⌜ ((afterAct o (now (table .exit)) (now (names .exit)) (now (committed .exit)) (now (staged .exit)) (now (image .exit)) (now (hash .exit)) (now (answer .exit)), now (answer .exit)) ≡ readied asked clock (now (message .entry)) (stateOf control (now (table .entry)) (now (names .entry)) (now (committed .entry)) (now (staged .entry)) (now (image .entry)) (now (hash .entry))) (now (answer .entry))) × (fieldsLength (o .said) ≤ readMost) ⌝ }
 {
     match asked {
         Request::Count => Act {

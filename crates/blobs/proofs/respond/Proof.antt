@@ -102,7 +102,7 @@ number-requires : tie.Need-number-requires
 number-requires c κs = search needs
 
 finish-requires : tie.Need-finish-requires
-finish-requires c κs = (at-answer c .answer .given ∙ in-else1₃ c .if1 .left, at-serve (c .before) .serve .ensures .few)
+finish-requires c κs = (at-answer c .answer .given ∙ in-else1₃ c .if1 .left, at-serve (c .before) .serve .ensures .1)
 
 same-length-7 : tie.Need-same-length-7
 same-length-7 c = search needs
@@ -134,7 +134,7 @@ returns-3 c =
     let start = entry₃ (decode .before) in
     let a = start .args in
     answers (a .clock) (a .request .now) (whole start) (a .answer .now) (in-else1₂ (decode .before) .if1 .left) (is-sound (decode .before))
-    (decode .decode .result) (decode .decode .ensures) _ _ _ (serve .serve .ensures .did) (serve .serve .ensures .over) _ (number .number .ensures) _ _ _
+    (decode .decode .result) (decode .decode .ensures) _ _ _ (serve .serve .ensures .0) _ (number .number .ensures) _ _ _
     (finish .finish .ensures .0 .0) (finish .finish .ensures .0 .1) (finish .finish .ensures .1)
 
 pub respond-spec : {M : Type 1} → statement M

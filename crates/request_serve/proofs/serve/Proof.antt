@@ -4,6 +4,7 @@ use mathlib.Core.Path.{_≡_, refl, ap}
 use mathlib.Core.List.{List}
 use Prim.Native.Nat.{ℕ, _≤_}
 use native.Mathlib.Omega.{arith}
+use Rattle.protocol.specs.Numbers.{readMost}
 use Rattle.protocol.specs.Frame.{Reply}
 use Rattle.protocol.specs.Inside.{Inside}
 use Rattle.protocol.specs.declared.Request.{Request}
@@ -11,8 +12,10 @@ use Rattle.state.specs.State.{State, stateOf}
 use Rattle.state.specs.Parts.{Shape}
 use Rattle.rules.specs.Respond.{answered}
 use Rattle.response_types.specs.declared.Said.{Said}
+use Rattle.response_types.specs.After.{fieldsLength}
 use Rattle.response_types.specs.Laws.{refused-leaves}
-use Rattle.request_serve.specs.Serves.{Serves, plain, laying, asked-is}
+use Rattle.request_serve.specs.Serves.{readied}
+use Rattle.request_serve.proofs.Serving.{Serves, plain, laying, asked-is}
 use Rattle.request_serve.proofs.Laws.{shape-of, lengths-fit, inside-of, write-rest}
 use Rattle.request_serve.proofs.serve.Statement.{statement}
 use Rattle.request_serve.proofs.serve.Tie as tie
@@ -85,8 +88,8 @@ inside c {q} e = inside-of (c .args .message .now) (c .args .asked) q (c .pre .1
 
 -- the request is the one of the arm
 answers : (c : tie.Start) {said : Said} {x : Reply × State} {b : List ℕ} {q : Request} → c .args .asked ≡ q
-    → Serves said x (answered q (c .args .clock) (c .args .message .now) (whole c)) (c .args .answer .now) b
-    → Serves said x (answered (c .args .asked) (c .args .clock) (c .args .message .now) (whole c)) (c .args .answer .now) b
+    → Serves said x b q (c .args .clock) (c .args .message .now) (whole c) (c .args .answer .now)
+    → ((x, b) ≡ readied (c .args .asked) (c .args .clock) (c .args .message .now) (whole c) (c .args .answer .now)) × (fieldsLength said ≤ readMost)
 answers c {said} {x} {b} {q} e h = asked-is said x (c .args .answer .now) b (c .args .clock) (c .args .message .now) (whole c) q (c .args .asked) e h
 
 enum-told : tie.Need-enum-told
@@ -221,7 +224,7 @@ returns c =
     let place = c .before in
     let start = entry (place .before .before) in
     let a = start .args in
-    answers start (place .enum-told .given .1) (plain (c .count .result) (whole start) _ (a .answer .now)
+    answers start (place .enum-told .given .1) (plain _ _ _ _ _ refl (c .count .result) (whole start)
     (λ (b : List ℕ). ap (λ (r : Reply). (r, whole start)) (c .count .ensures (a .table .now) (a .names .now) (a .committed .now) (a .staged .now) (a .image .now) (a .hash .now) b)))
 
 same-length : tie.Need-same-length
@@ -239,7 +242,7 @@ returns-2 c =
     let a = start .args in
     let e = call .enumerate .ensures (a .table .now) (a .committed .now) (a .staged .now) (a .image .now) (a .hash .now) in
     answers start (place .asked .given .1)
-    (laying (call .enumerate .result) (whole start) _ (a .answer .now) _ (ap (λ (r : Reply). (r, whole start)) (e .says)) (e .short) (e .lays))
+    (laying _ _ _ _ _ refl (call .enumerate .result) (whole start) _ (ap (λ (r : Reply). (r, whole start)) (e .says)) (e .short) (e .lays))
 
 same-length-3 : tie.Need-same-length-3
 same-length-3 c = search needs
@@ -265,7 +268,7 @@ returns-3 c =
     let call = at-open c in
     let place = asked-open (call .before) in
     let start = entry (place .before .before) in
-    answers start (place .asked2 .given .1) (plain (call .«open» .result .said) _ _ (start .args .answer .now) (call .«open» .ensures))
+    answers start (place .asked2 .given .1) (plain _ _ _ _ _ refl (call .«open» .result .said) _ (call .«open» .ensures))
 
 same-length-9 : tie.Need-same-length-9
 same-length-9 c = search needs
@@ -287,7 +290,7 @@ returns-4 c =
     let start = entry (place .before .before) in
     let a = start .args in
     let e = call .read .ensures .1 (a .names .now) (a .image .now) (a .hash .now) in
-    answers start (place .asked3 .given .1) (laying (call .read .result) _ _ (a .answer .now) _ (e .0) (call .read .ensures .0) (e .1))
+    answers start (place .asked3 .given .1) (laying _ _ _ _ _ refl (call .read .result) _ _ (e .0) (call .read .ensures .0) (e .1))
 
 same-length-13 : tie.Need-same-length-13
 same-length-13 c = search needs
@@ -308,7 +311,7 @@ returns-5 c =
     let place = asked-write (call .before .before) in
     let start = entry (place .before .before) in
     let a = start .args in
-    answers start (place .asked4 .given .1) (plain (call .write .result .said) _ _ (a .answer .now)
+    answers start (place .asked4 .given .1) (plain _ _ _ _ _ refl (call .write .result .said) _
     (λ (b : List ℕ). write-rest _ (a .clock) _ _ (a .message .now) (whole start) _ (call .write .ensures (a .names .now) (a .committed .now) b)))
 
 same-length-17 : tie.Need-same-length-17
@@ -333,7 +336,7 @@ returns-6 c =
     let place = asked-commit (call .before) in
     let start = entry (place .before .before) in
     let a = start .args in
-    answers start (place .asked5 .given .1) (plain (call .commit .result .said) _ _ (a .answer .now) (call .commit .ensures (a .names .now)))
+    answers start (place .asked5 .given .1) (plain _ _ _ _ _ refl (call .commit .result .said) _ (call .commit .ensures (a .names .now)))
 
 same-length-22 : tie.Need-same-length-22
 same-length-22 c = search needs
@@ -360,7 +363,7 @@ returns-7 c =
     let place = asked-close (call .before) in
     let start = entry (place .before .before) in
     let a = start .args in
-    answers start (place .asked6 .given .1) (plain (call .close .result .said) _ _ (a .answer .now) (call .close .ensures (a .clock)))
+    answers start (place .asked6 .given .1) (plain _ _ _ _ _ refl (call .close .result .said) _ (call .close .ensures (a .clock)))
 
 same-length-28 : tie.Need-same-length-28
 same-length-28 c = search needs
@@ -381,7 +384,7 @@ returns-8 c =
     let place = asked-delete (call .before) in
     let start = entry (place .before .before) in
     let a = start .args in
-    answers start (place .asked7 .given .1) (plain (call .delete .result .said) _ _ (a .answer .now) (call .delete .ensures (a .image .now) (a .hash .now)))
+    answers start (place .asked7 .given .1) (plain _ _ _ _ _ refl (call .delete .result .said) _ (call .delete .ensures (a .image .now) (a .hash .now)))
 
 same-length-32 : tie.Need-same-length-32
 same-length-32 c = search needs
@@ -395,7 +398,7 @@ returns-9 c =
     let place = asked-stat (c .before) in
     let start = entry (place .before .before) in
     let a = start .args in
-    answers start (place .asked8 .given .1) (plain (c .stat .result) (whole start) _ (a .answer .now)
+    answers start (place .asked8 .given .1) (plain _ _ _ _ _ refl (c .stat .result) (whole start)
     (λ (b : List ℕ). ap (λ (r : Reply). (r, whole start)) (c .stat .ensures (a .committed .now) (a .staged .now) (a .image .now) (a .hash .now) b)))
 
 same-length-34 : tie.Need-same-length-34
@@ -408,7 +411,7 @@ returns-10 c =
     let place = asked-session-stat (call .before) in
     let start = entry (place .before .before) in
     let a = start .args in
-    answers start (place .asked9 .given .1) (plain (call .stat2 .result) _ _ (a .answer .now)
+    answers start (place .asked9 .given .1) (plain _ _ _ _ _ refl (call .stat2 .result) _
     (call .stat2 .ensures (a .names .now) (a .committed .now) (a .staged .now) (a .image .now) (a .hash .now)))
 
 same-length-35 : tie.Need-same-length-35
@@ -420,7 +423,7 @@ returns-11 c =
     let place = asked-write-meta (c .before) in
     let start = entry (place .before .before) in
     let a = start .args in
-    answers start (place .asked10 .given .1) (plain (c .write-meta .result) _ _ (a .answer .now)
+    answers start (place .asked10 .given .1) (plain _ _ _ _ _ refl (c .write-meta .result) _
     (c .write-meta .ensures (a .clock) (a .names .now) (a .committed .now) (a .staged .now) (a .image .now) (a .hash .now)))
 
 returns-12 : tie.Need-returns-12
@@ -428,7 +431,7 @@ unfolding answered
 returns-12 c =
     let place = c .before .before in
     let start = entry (place .before .before) in
-    answers start (place .asked11 .given .1) (plain (c .refused .result .said) _ _ (start .args .answer .now) (λ (b : List ℕ). refused-leaves b (c .refused .ensures) refl))
+    answers start (place .asked11 .given .1) (plain _ _ _ _ _ refl (c .refused .result .said) _ (λ (b : List ℕ). refused-leaves b (c .refused .ensures) refl))
 
 pub serve-spec : {M : Type 1} → statement M
 serve-spec =
