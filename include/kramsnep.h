@@ -24,7 +24,6 @@
 #ifndef KRAMSNEP_H
 #define KRAMSNEP_H
 
-#include <stdbool.h>
 #include <stddef.h>
 #include <stdint.h>
 
@@ -55,7 +54,7 @@ extern "C" {
 #define KRAMSNEP_TOO_LONG 0xC8        /* a Write would end above the capacity */
 #define KRAMSNEP_OUT_OF_RANGE 0xC9    /* Enumerate's index is not below the count, or Write's offset is above the length */
 #define KRAMSNEP_NOT_FOUND 0xCB       /* no such blob or session */
-#define KRAMSNEP_INVALID 0xCC         /* OEM number, CRC, form of a name, flags or commit length are wrong */
+#define KRAMSNEP_INVALID 0xCC         /* OEM number, CRC, form of a name, flags, commit length, or the verdict on a job, are wrong */
 #define KRAMSNEP_NOT_SUPPORTED 0xD5   /* this blob or session has no such command, or no job runs whose outcome could be taken */
 #define KRAMSNEP_NOT_SOUND 0xFF       /* a lent length is wrong, or the state is damaged */
 
@@ -128,14 +127,21 @@ uint32_t kramsnep_respond(const uint8_t *request, size_t request_len, uint32_t c
                           uint8_t *staged, size_t staged_len, uint8_t *image, size_t image_len,
                           uint8_t *hash, size_t hash_len, uint8_t *answer, size_t answer_len);
 
-/* Takes the outcome of the running job, good or failed.
+/* The verdict on a job. */
+#define KRAMSNEP_VERDICT_FAILED 0
+#define KRAMSNEP_VERDICT_GOOD 1
+
+/* Takes the outcome of the running job: verdict is KRAMSNEP_VERDICT_GOOD or KRAMSNEP_VERDICT_FAILED.
  *
  * A Commit on verify or update starts a job: the row of that session then has the status KRAMSNEP_JOB_RUNNING. The caller sees it there after a
  * request, does the work (verify the image against the hash; install the image), and reports by this call. At most one job runs at a time.
  * Only the session's row changes.
  *
- * The result is the completion code: KRAMSNEP_SUCCESS, KRAMSNEP_NOT_SUPPORTED if no job runs, or KRAMSNEP_NOT_SOUND. */
-uint32_t kramsnep_job_outcome(bool good, const uint32_t *control, size_t control_len, uint32_t *table, size_t table_len,
+ * The result is the completion code: KRAMSNEP_SUCCESS, or a refusal, which changes nothing. They are tested in this order:
+ *   KRAMSNEP_NOT_SOUND      a lent length is wrong, or the state is damaged
+ *   KRAMSNEP_INVALID        the verdict is neither of the two
+ *   KRAMSNEP_NOT_SUPPORTED  no job runs */
+uint32_t kramsnep_job_outcome(uint32_t verdict, const uint32_t *control, size_t control_len, uint32_t *table, size_t table_len,
                               const uint8_t *names, size_t names_len, const uint8_t *committed, size_t committed_len,
                               const uint8_t *staged, size_t staged_len, const uint8_t *image, size_t image_len,
                               const uint8_t *hash, size_t hash_len);
@@ -161,9 +167,9 @@ static inline uint32_t kramsnep_respond_in(struct kramsnep_memory *m, const uint
 }
 
 /* kramsnep_job_outcome on memory of that type. */
-static inline uint32_t kramsnep_job_outcome_in(struct kramsnep_memory *m, bool good)
+static inline uint32_t kramsnep_job_outcome_in(struct kramsnep_memory *m, uint32_t verdict)
 {
-    return kramsnep_job_outcome(good, m->control, KRAMSNEP_CONTROL_WORDS, m->table, KRAMSNEP_TABLE_WORDS, m->names, KRAMSNEP_NAMES_SIZE,
+    return kramsnep_job_outcome(verdict, m->control, KRAMSNEP_CONTROL_WORDS, m->table, KRAMSNEP_TABLE_WORDS, m->names, KRAMSNEP_NAMES_SIZE,
                                 m->committed, KRAMSNEP_COMMITTED_SIZE, m->staged, KRAMSNEP_STAGED_SIZE, m->image, KRAMSNEP_IMAGE_SIZE,
                                 m->hash, KRAMSNEP_HASH_SIZE);
 }

@@ -1,5 +1,6 @@
 /* requests FILE: answers the records of a request file from a fresh state, and prints what a request takes beside the soundness test on the same states: the file is run once
  * as it is, and once with an empty message before each request. An empty message is refused right after the soundness test, so it stands for the test. */
+#include <stdbool.h>
 #include <stdio.h>
 #include <stdlib.h>
 #include <string.h>

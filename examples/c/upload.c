@@ -105,12 +105,13 @@ int main(void)
     for (int row = 0; row < KRAMSNEP_ROWS; row++) /* which job is to be done? */
         if (KRAMSNEP_JOB_STATUS(memory.table[row * KRAMSNEP_ROW_WORDS + 2]) == KRAMSNEP_JOB_RUNNING)
             printf("job: blob %u\n", (unsigned)memory.table[row * KRAMSNEP_ROW_WORDS + 1]);
-    printf("job outcome: %02X\n", (unsigned)kramsnep_job_outcome_in(&memory, true));
+    printf("job outcome: %02X\n", (unsigned)kramsnep_job_outcome_in(&memory, KRAMSNEP_VERDICT_GOOD));
     on_session("session stat", SESSION_STAT, session);
     on_session("close", CLOSE, session);
     printf("phase: %u\n", (unsigned)memory.control[KRAMSNEP_CONTROL_PHASE]);
-    printf("second job outcome: %02X\n", (unsigned)kramsnep_job_outcome_in(&memory, true));
+    printf("second job outcome: %02X\n", (unsigned)kramsnep_job_outcome_in(&memory, KRAMSNEP_VERDICT_GOOD));
+    printf("no verdict: %02X\n", (unsigned)kramsnep_job_outcome_in(&memory, 2));
     memory.control[KRAMSNEP_CONTROL_PHASE] = 3;
-    printf("damaged control block: %02X\n", (unsigned)kramsnep_job_outcome_in(&memory, true));
+    printf("damaged control block: %02X\n", (unsigned)kramsnep_job_outcome_in(&memory, 2));
     return 0;
 }

@@ -10,7 +10,7 @@ impl Code {
     pub const NOT_SOUND: Code = Code(0xFF);
     /// C7: wrong length of the message or its body.
     pub const LENGTH: Code = Code(0xC7);
-    /// CC: a wrong OEM number, CRC, form of name, flags or length byte.
+    /// CC: a wrong OEM number, CRC, form of name, flags, length byte or verdict on a job.
     pub const FIELD: Code = Code(0xCC);
     /// C1: unknown subcommand.
     pub const SUBCOMMAND: Code = Code(0xC1);

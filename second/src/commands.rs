@@ -15,6 +15,10 @@ use crate::sweep::sweep;
 
 type Outcome = Result<Response, Code>;
 
+/// The verdict on a job.
+pub const VERDICT_FAILED: u32 = 0;
+pub const VERDICT_GOOD: u32 = 1;
+
 /// Bits of a blob's state.
 const BIT_COMMITTING: u32 = 1 << 2;
 const BIT_COMMITTED: u32 = 1 << 3;
@@ -40,15 +44,20 @@ fn success(response: &Response, answer: &mut [u8]) -> u32 {
     Code::SUCCESS.number() | (length << 8)
 }
 
-/// The end of a job (rules 17.1-17.3): the status alone changes.
-pub fn job_outcome(good: bool, memory: &mut Memory) -> u32 {
+/// The end of a job (rules 17.1-17.3): the status alone changes. A caller in C gives the verdict as a number, so one
+/// that is neither failed nor good can come: it is refused once the state is known to be sound (Reading 21).
+pub fn job_outcome(verdict: u32, memory: &mut Memory) -> u32 {
     if !is_sound(memory) {
         return Code::NOT_SOUND.number();
     }
+    let status = match verdict {
+        VERDICT_FAILED => FAILED,
+        VERDICT_GOOD => SUCCEEDED,
+        _ => return Code::FIELD.number(),
+    };
     let running = memory.used_rows().find(|row| memory.row(*row).status == RUNNING);
     match running {
         Some(row) => {
-            let status = if good { SUCCEEDED } else { FAILED };
             memory.set_row(row, &Row { status, ..memory.row(row) });
             Code::SUCCESS.number()
         }

@@ -174,8 +174,8 @@ fn difference<T: PartialEq + std::fmt::Debug>(what: &str, one: &[T], other: &[T]
 pub trait Implementation {
     /// Completion code + 256 × response length.
     fn respond(&mut self, request: &[u8], clock: u32, memory: &mut OwnedMemory, answer: &mut Vec<u8>) -> u32;
-    /// Completion code.
-    fn job_outcome(&mut self, good: bool, memory: &mut OwnedMemory) -> u32;
+    /// Completion code. The verdict is 1 for good, 0 for failed; any other is refused.
+    fn job_outcome(&mut self, verdict: u32, memory: &mut OwnedMemory) -> u32;
 }
 
 /// This package's implementation.
@@ -186,8 +186,8 @@ impl Implementation for Second {
         crate::respond(request, clock, &mut memory.lend(), answer)
     }
 
-    fn job_outcome(&mut self, good: bool, memory: &mut OwnedMemory) -> u32 {
-        crate::job_outcome(good, &mut memory.lend())
+    fn job_outcome(&mut self, verdict: u32, memory: &mut OwnedMemory) -> u32 {
+        crate::job_outcome(verdict, &mut memory.lend())
     }
 }
 

@@ -16,7 +16,7 @@ extern "C" {
 
     /// Gives the completion code.
     fn kramsnep_job_outcome(
-        good: bool,
+        verdict: u32,
         control: *mut u32, control_len: usize, table: *mut u32, table_len: usize,
         names: *const u8, names_len: usize, committed: *const u8, committed_len: usize,
         staged: *const u8, staged_len: usize, image: *const u8, image_len: usize,
@@ -46,12 +46,12 @@ impl Implementation for Library {
     }
 
     #[rustfmt::skip]
-    fn job_outcome(&mut self, good: bool, memory: &mut OwnedMemory) -> u32 {
+    fn job_outcome(&mut self, verdict: u32, memory: &mut OwnedMemory) -> u32 {
         let m = memory;
         // As above.
         unsafe {
             kramsnep_job_outcome(
-                good,
+                verdict,
                 m.control.as_mut_ptr(), m.control.len(), m.table.as_mut_ptr(), m.table.len(),
                 m.names.as_ptr(), m.names.len(), m.committed.as_ptr(), m.committed.len(),
                 m.staged.as_ptr(), m.staged.len(), m.image.as_ptr(), m.image.len(),

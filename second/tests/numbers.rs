@@ -2,7 +2,7 @@
 //! (rules 7.1-7.11).
 
 use second::crc::{crc, eight_shifts, TABLE};
-use second::harness::{self as h, Implementation, OwnedMemory, Second};
+use second::harness::{self as h, Implementation, OwnedMemory, Second, OTHER};
 use second::state::{COMMITTED_LENGTHS, LAST_SWEEP, NEXT_IDENTIFIER, PHASE, STAGED_LENGTHS};
 
 /// A cabinet from a fresh state, with a clock that the tests set.
@@ -56,7 +56,7 @@ impl Cabinet {
     }
 
     fn outcome(&mut self, good: bool) -> u8 {
-        let code = Second.job_outcome(good, &mut self.memory);
+        let code = Second.job_outcome(u32::from(good), &mut self.memory);
         assert!(self.memory.is_sound());
         code as u8
     }
@@ -294,7 +294,7 @@ fn ff_state_not_sound() {
     let mut answer = vec![0xEE; 64];
     assert_eq!(Second.respond(&h::count(), 0, &mut cabinet.memory, &mut answer), 0xFF);
     assert_eq!(Second.respond(&[], 0, &mut cabinet.memory, &mut answer), 0xFF);
-    assert_eq!(Second.job_outcome(true, &mut cabinet.memory), 0xFF);
+    assert_eq!(Second.job_outcome(1, &mut cabinet.memory), 0xFF);
     assert_eq!((cabinet.memory, answer), (before, vec![0xEE; 64]));
     for length in [0, 63, 65] {
         let mut answer = vec![0xEE; length];
@@ -514,6 +514,33 @@ fn d5_not_supported() {
     assert_eq!(cabinet.outcome(false), 0xD5);
 }
 
+/// A verdict is 0 or 1. Any other is CC and changes nothing, whether a job runs or not; FF comes before it.
+#[test]
+fn cc_verdict() {
+    let mut cabinet = Cabinet::fresh();
+    let refused = |memory: &mut OwnedMemory, code: u32| {
+        let before = memory.clone();
+        for verdict in [2, 3, 0xFF, 0x100, 0x101, 0xFFFF_FFFF] {
+            assert_eq!(Second.job_outcome(verdict, memory), code);
+            assert_eq!({ OTHER }.job_outcome(verdict, memory), code);
+        }
+        assert!(*memory == before);
+    };
+    refused(&mut cabinet.memory, 0xCC);
+    let image = cabinet.open(2, "/flash/image");
+    assert_eq!(cabinet.code(&h::close(image)), 0);
+    let session = cabinet.open(2, "/flash/verify");
+    assert_eq!(cabinet.code(&h::commit(session)), 0);
+    refused(&mut cabinet.memory, 0xCC);
+    assert_eq!(cabinet.outcome(true), 0);
+    refused(&mut cabinet.memory, 0xCC);
+    cabinet.memory.control[PHASE] = 3;
+    refused(&mut cabinet.memory, 0xFF);
+    cabinet.memory.control[PHASE] = 0;
+    cabinet.memory.names.pop();
+    refused(&mut cabinet.memory, 0xFF);
+}
+
 // ---- The commands ----
 
 #[test]
@@ -687,7 +714,7 @@ fn no_memory_makes_it_panic() {
         let mut answer = random.bytes(lengths[7]);
         let request = random.bytes(lengths[8]);
         assert_eq!(Second.respond(&request, random.word(), &mut memory, &mut answer), 0xFF);
-        assert_eq!(Second.job_outcome(true, &mut memory), 0xFF);
+        assert_eq!(Second.job_outcome(random.word(), &mut memory), 0xFF);
     }
 }
 

@@ -1,9 +1,11 @@
 -- What a call from C leaves: its result, and every word and byte that was lent to it.
-use mathlib.Core.Bool.{Bool, cond}
+use mathlib.Core.Bool.{Bool, cond, _&&_, _||_}
 use mathlib.Core.List.{List}
 use Prim.Native.Nat.{ℕ, _/_, _%_}
-use Rattle.protocol.specs.Numbers.{notSound}
+use lib.Dec.{eqb}
+use Rattle.protocol.specs.Numbers.{invalid, notSound}
 use Rattle.state.specs.State.{State, stateOf}
+use Rattle.state.specs.Soundness.{isSound}
 use Rattle.state.specs.declared.Control.{Control}
 use Rattle.rules.specs.Respond.{Effect, jobOutcome, Served, served}
 use Rattle.capi_control.specs.Words.{controlFits, controlOf, wordsOf}
@@ -84,6 +86,24 @@ pub record Reported : Type 0 where
 abbrev pub reportedWith : Effect → Reported
 reportedWith o = record { code = o .code; memory = memoryOf (o .state) }
 
--- THE C FUNCTION `kramsnep_job_outcome`
-unfoldable pub reported : Bool → Memory → Reported
-reported good l = cond (controlFits (l .control)) (reportedWith (jobOutcome good (stateIn l))) (record { code = notSound; memory = l })
+-- a refusal: all is as found
+abbrev pub keptWith : (code : ℕ) → Memory → Reported
+keptWith code l = record { code = code; memory = l }
+
+-- the two verdicts on a job
+abbrev pub jobFailed : ℕ
+jobFailed = 0
+
+abbrev pub jobGood : ℕ
+jobGood = 1
+
+abbrev pub isVerdict : (verdict : ℕ) → Bool
+isVerdict v = eqb v jobFailed || eqb v jobGood
+
+-- THE C FUNCTION `kramsnep_job_outcome`: FF without a control block or a sound state; then CC for a verdict that is none; then what the library answers (rule 17.1)
+unfoldable pub reported : (verdict : ℕ) → Memory → Reported
+reported v l =
+    cond (controlFits (l .control) && isSound (stateIn l))
+    (cond (isVerdict v) (reportedWith (jobOutcome (eqb v jobGood) (stateIn l)))
+    (keptWith invalid l))
+    (keptWith notSound l)

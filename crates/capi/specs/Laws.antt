@@ -6,7 +6,7 @@ use Prim.Native.Nat.{ℕ, _/_, _%_, _≤_}
 use native.Mathlib.Omega.{arith}
 use lib.Dec.{eqb}
 use lib.ListN.{length}
-use Rattle.protocol.specs.Numbers.{notSound, answerSize}
+use Rattle.protocol.specs.Numbers.{invalid, notSound, answerSize}
 use Rattle.state.specs.State.{State, stateOf}
 use Rattle.state.specs.Soundness.{isSound}
 use Rattle.state.specs.declared.Control.{Control}
@@ -14,7 +14,7 @@ use Rattle.rules.specs.Respond.{Effect, unsound, respond, jobOutcome, Served, s
 use Rattle.guarantees.specs.Fits.{response-fits}
 use Rattle.capi_control.specs.Words.{controlFits, controlOf, wordsOf}
 use Rattle.capi_control.specs.Laws.{words-control}
-use Rattle.capi.specs.Call.{Memory, stateIn, memoryOf, Responded, respondedWith, responded, codeUnit, resultOf, reportedWith, reported}
+use Rattle.capi.specs.Call.{Memory, stateIn, memoryOf, Responded, respondedWith, responded, codeUnit, resultOf, reportedWith, keptWith, jobGood, isVerdict, reported}
 
 -- the memory l with other control words
 abbrev withControl : Memory → List ℕ → Memory
@@ -73,27 +73,51 @@ served-fits t m s a v e = subst (λ (x : Served). x .len ≤ answerSize) (sym e)
     go false = omega arith
 
 -- ---- a job outcome
-module _ (good : Bool) (l : Memory) where
-  pub report-not : controlFits (l .control) ≡ false → reported good l ≡ record { code = notSound; memory = l }
+module _ (v : ℕ) (l : Memory) where
+  pub report-not : controlFits (l .control) ≡ false → reported v l ≡ keptWith notSound l
   unfolding reported
   report-not f = rw f
 
-  -- THEOREM: a state that is not sound is refused, and all is as found
-  pub report-unsound : isSound (stateIn l) ≡ false → reported good l ≡ record { code = notSound; memory = l }
-  unfolding reported jobOutcome
+  -- THEOREM: a state that is not sound is refused, whatever the verdict, and all is as found
+  pub report-unsound : isSound (stateIn l) ≡ false → reported v l ≡ keptWith notSound l
+  unfolding reported
   report-unsound h = go (controlFits (l .control)) refl
     where
-      go : (y : Bool) → controlFits (l .control) ≡ y → reported good l ≡ record { code = notSound; memory = l }
+      go : (y : Bool) → controlFits (l .control) ≡ y → reported v l ≡ keptWith notSound l
       go false f = rw f
-      go true f = rw (f, h) (ap (λ (k : Memory). record { code = notSound; memory = k }) (memory-state l f))
+      go true f = rw (f, h)
 
-  -- the library's answer is the C function's: the control block b stays
-  pub report-fits : (code : ℕ) (b : Control) (tb : List ℕ) → controlFits (l .control) ≡ true → b ≡ controlOf (l .control)
-      → record { code = code; response = []; state = stateOf b tb (l .names) (l .committed) (l .staged) (l .image) (l .hash) } ≡ jobOutcome good (stateOf b (l .table) (l .names) (l .committed) (l .staged) (l .image) (l .hash))
-      → record { code = code; memory = record { control = l .control; table = tb; names = l .names; committed = l .committed; staged = l .staged; image = l .image; hash = l .hash } } ≡ reported good l
-  unfolding reported
-  report-fits code b tb f e₁ e =
-      (λ j. record { code = code; memory = record { control = (sym (words-control (l .control) f) ∙ ap wordsOf (sym e₁)) j; table = tb; names = l .names; committed = l .committed; staged = l .staged; image = l .image; hash = l .hash } })
-      ∙ ap reportedWith e
-      ∙ ap (λ (x : Control). reportedWith (jobOutcome good (stateOf x (l .table) (l .names) (l .committed) (l .staged) (l .image) (l .hash)))) e₁
-      ∙ sym (rw f)
+  module _ (f : controlFits (l .control) ≡ true) where
+    -- a verdict that is none: c is its code, b the control block
+    pub report-none : (c : ℕ) (b : Control) → isVerdict v ≡ false → b ≡ controlOf (l .control)
+        → c ≡ cond (isSound (stateOf b (l .table) (l .names) (l .committed) (l .staged) (l .image) (l .hash))) invalid notSound → keptWith c l ≡ reported v l
+    unfolding reported
+    report-none c b n e₁ e = ap (λ (x : ℕ). keptWith x l) (e ∙ ap (λ (x : Control). cond (isSound (stateOf x (l .table) (l .names) (l .committed) (l .staged) (l .image) (l .hash))) invalid notSound) e₁)
+        ∙ go (isSound (stateIn l)) refl
+      where
+        go : (y : Bool) → isSound (stateIn l) ≡ y → keptWith (cond (isSound (stateIn l)) invalid notSound) l ≡ reported v l
+        go true h = rw (f, h, n)
+        go false h = rw (f, h)
+
+    -- THEOREM: on a sound state it is refused with CC, and all is as found
+    pub verdict-none : isSound (stateIn l) ≡ true → isVerdict v ≡ false → reported v l ≡ keptWith invalid l
+    verdict-none h n = sym (report-none invalid (controlOf (l .control)) n refl (rw h))
+
+    -- a verdict: what the library answers, also where the state is not sound
+    report-is : isVerdict v ≡ true → reported v l ≡ reportedWith (jobOutcome (eqb v jobGood) (stateIn l))
+    unfolding reported jobOutcome
+    report-is n = go (isSound (stateIn l)) refl
+      where
+        go : (y : Bool) → isSound (stateIn l) ≡ y → reported v l ≡ reportedWith (jobOutcome (eqb v jobGood) (stateIn l))
+        go true h = rw (f, h, n)
+        go false h = rw (f, h) (ap (keptWith notSound) (sym (memory-state l f)))
+
+    -- the library's answer is the C function's: the control block b stays
+    pub report-fits : (code : ℕ) (b : Control) (tb : List ℕ) → isVerdict v ≡ true → b ≡ controlOf (l .control)
+        → record { code = code; response = []; state = stateOf b tb (l .names) (l .committed) (l .staged) (l .image) (l .hash) } ≡ jobOutcome (eqb v jobGood) (stateOf b (l .table) (l .names) (l .committed) (l .staged) (l .image) (l .hash))
+        → record { code = code; memory = record { control = l .control; table = tb; names = l .names; committed = l .committed; staged = l .staged; image = l .image; hash = l .hash } } ≡ reported v l
+    report-fits code b tb n e₁ e =
+        (λ j. record { code = code; memory = record { control = (sym (words-control (l .control) f) ∙ ap wordsOf (sym e₁)) j; table = tb; names = l .names; committed = l .committed; staged = l .staged; image = l .image; hash = l .hash } })
+        ∙ ap reportedWith e
+        ∙ ap (λ (x : Control). reportedWith (jobOutcome (eqb v jobGood) (stateOf x (l .table) (l .names) (l .committed) (l .staged) (l .image) (l .hash)))) e₁
+        ∙ sym (report-is n)

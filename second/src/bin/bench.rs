@@ -117,7 +117,7 @@ fn outcome_line(state: &OwnedMemory) {
     let time = |one: &mut dyn Implementation| {
         let mut memory = state.clone();
         let begin = Instant::now();
-        let results: Vec<u32> = (0..CALLS).map(|_| one.job_outcome(true, &mut memory)).collect();
+        let results: Vec<u32> = (0..CALLS).map(|_| one.job_outcome(1, &mut memory)).collect();
         (begin.elapsed().as_nanos() as f64 / CALLS as f64, results[0])
     };
     let rounds: Vec<_> = (0..ROUNDS).map(|_| (time(&mut Library), time(&mut Second))).collect();

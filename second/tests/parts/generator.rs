@@ -36,6 +36,14 @@ pub const PROFILES: [Profile; 6] = [
 pub const KINDS: u8 = 12;
 const OUTCOME: u8 = 11;
 
+/// A verdict on a job: good in so many of a hundred, now and then one that is none.
+pub fn verdict(random: &mut Random, good: u64) -> u32 {
+    if random.chance(4) {
+        return random.word().max(2);
+    }
+    u32::from(random.chance(good))
+}
+
 const POOL: &[&[u8]] = &[
     b"/scan/moreau",
     b"/scan/moreau2",
@@ -203,7 +211,7 @@ impl Generator {
     /// A step of this kind.
     pub fn of_kind(&mut self, kind: u8, memory: &OwnedMemory) -> Step {
         if kind == OUTCOME {
-            return Step::Outcome(self.random.chance(60));
+            return Step::Outcome(verdict(&mut self.random, 60));
         }
         let mut bytes = self.message(kind, memory);
         if self.random.chance(3) {
@@ -467,7 +475,7 @@ impl Generator {
                 let session = row.identifier as u16;
                 let flash = row.flash().expect("a flash row");
                 if self.random.chance(5) {
-                    return Step::Outcome(self.random.chance(50));
+                    return Step::Outcome(verdict(&mut self.random, 50));
                 }
                 match (flash, row.status) {
                     (Flash::Image | Flash::Hash, _) if self.random.chance(85) => {
@@ -478,7 +486,7 @@ impl Generator {
                         harness::write(session, length, &data)
                     }
                     (Flash::Verify | Flash::Update, 1) if self.random.chance(60) => {
-                        return Step::Outcome(self.random.chance(65));
+                        return Step::Outcome(verdict(&mut self.random, 65));
                     }
                     (Flash::Verify | Flash::Update, 0 | 3) if self.random.chance(70) => harness::commit(session),
                     (Flash::Cleanup, 0) if self.random.chance(60) => harness::commit(session),

@@ -1,6 +1,6 @@
 //! Merges: lists of requests for open sessions give the same codes, responses and end state however they are merged.
 
-use super::generator::{Generator, Profile};
+use super::generator::{verdict, Generator, Profile};
 use super::pair::{run, Step};
 use super::tally::{command_of, Tally, OUTCOME};
 use super::Share;
@@ -124,7 +124,7 @@ fn list(generator: &mut Generator, start: &OwnedMemory, row: &Row) -> Vec<Step> 
     for _ in 0..length {
         clock = near(random, clock, 400);
         if row.flash().is_some() && random.chance(25) {
-            steps.push(Step::Outcome(random.chance(60)));
+            steps.push(Step::Outcome(verdict(random, 60)));
             continue;
         }
         let bytes = request(random, row, &mut end, capacity);

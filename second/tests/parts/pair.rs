@@ -9,11 +9,11 @@ use second::names::Flash;
 use second::state::{Row, FLAGS_READ, LAST_SWEEP, NEXT_IDENTIFIER, PHASE, SLOTS_COMMITTED};
 use second::sweep::is_due;
 
-/// One thing to do: a message with its clock, or a job outcome.
+/// One thing to do: a message with its clock, or a job outcome with its verdict.
 #[derive(Clone, Debug)]
 pub enum Step {
     Message { bytes: Vec<u8>, clock: u32 },
-    Outcome(bool),
+    Outcome(u32),
 }
 
 impl std::fmt::Display for Step {
@@ -23,7 +23,7 @@ impl std::fmt::Display for Step {
                 write!(formatter, "clock {clock}, {} bytes ", bytes.len())?;
                 bytes.iter().try_for_each(|byte| write!(formatter, "{byte:02X}"))
             }
-            Step::Outcome(good) => write!(formatter, "job outcome, good: {good}"),
+            Step::Outcome(verdict) => write!(formatter, "job outcome, verdict: {verdict}"),
         }
     }
 }
@@ -32,7 +32,7 @@ impl std::fmt::Display for Step {
 pub fn run(one: &mut dyn Implementation, step: &Step, memory: &mut OwnedMemory, answer: &mut Vec<u8>) -> u32 {
     match step {
         Step::Message { bytes, clock } => one.respond(bytes, *clock, memory, answer),
-        Step::Outcome(good) => one.job_outcome(*good, memory),
+        Step::Outcome(verdict) => one.job_outcome(*verdict, memory),
     }
 }
 
@@ -200,10 +200,10 @@ impl Pair {
 impl Pair {
     fn tally_step(&mut self, step: &Step, code: u8, length: usize) {
         match step {
-            Step::Outcome(good) => {
+            Step::Outcome(verdict) => {
                 self.tally.count(OUTCOME, code);
                 if code == 0 {
-                    self.tally_outcome(*good);
+                    self.tally_outcome(*verdict == 1);
                 }
             }
             Step::Message { bytes, clock } => {
