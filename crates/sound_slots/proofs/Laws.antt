@@ -6,12 +6,16 @@ use Prim.Native.Nat.{ℕ, _+_, _*_, _-_, _≤_}
 use native.Mathlib.Nat.{suc-mul}
 use native.Mathlib.Numerals.{add-one}
 use native.Mathlib.Omega.{arith}
+use lib.Dec.{eqb}
 use lib.ListN.{length, take, drop, replicate, length-drop, take-append-drop}
 use lib.Seq.{take-all, length-take-le, drop-at, take-add, drop-drop}
+use Rattle.laws.specs.All.{and-true}
 use Rattle.laws.specs.Bytes.{zeros, zeros-true, zeros-append, replicate-zeros, same, eq-same, ne-same, padded, padded-is, firstZero}
 use Rattle.laws.specs.Ranges.{part}
 use Rattle.protocol.specs.Numbers.{nameSize, slotSize}
 use Rattle.protocol.specs.Names.{storeName, storeField}
+use Rattle.state.specs.State.{Slot}
+use Rattle.state.specs.Soundness.{usedSlot}
 
 -- ---- a region by blocks of 1,024 bytes: the first j from a place on are zero
 unfoldable pub blocksZero : ℕ → List ℕ → ℕ → Bool
@@ -55,3 +59,8 @@ unfolding storeField
 field-is f n a b l p h u v =
     let e : take (length f - n) (drop n f) ≡ drop n f = take-all (length f - n) (drop n f) (omega (arith, length-drop n f)) in
     rw (u, v, e, ← p, pad-zeros f n l h)
+
+-- ---- a committed slot with nothing staged is right with a writer or without
+pub any-writer : (x : Bool) (b : Slot) (w : Bool) → x ≡ usedSlot b true → eqb (b .mark) 1 && eqb (b .stagedLen) 0 ≡ true → x ≡ usedSlot b w
+unfolding usedSlot
+any-writer x b w e h = let p = and-true (eqb (b .mark) 1) (eqb (b .stagedLen) 0) h in rw (e, p .0, p .1)

@@ -135,6 +135,10 @@ fn slot_ok(
     let staged_len = staged_lens[k];
     let mark = bit_of(control.marks, k);
     if has(control.slots, k) {
+        // Committed and nothing staged: such a slot is right with a writer or without, so the rows need not be read.
+        if (mark == 1) & (staged_len == 0) {
+            return used_slot(names, k, mark, committed_len, staged_len, true);
+        }
         let writer = has_writer(control.rows, table, k as u32);
         return used_slot(names, k, mark, committed_len, staged_len, writer);
     }

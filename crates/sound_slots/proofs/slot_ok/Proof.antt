@@ -2,7 +2,8 @@
 use Prim.Native.Nat.{ℕ}
 use mathlib.Core.List.{List}
 use Rattle.state.specs.State.{State, stateOf}
-use Rattle.state.specs.Soundness.{slotAt, slotOk}
+use Rattle.state.specs.Soundness.{slotAt, slotOk, hasWriter}
+use Rattle.sound_slots.proofs.Laws.{any-writer}
 use borrow.Author.Needs.{needs}
 use Rattle.sound_slots.proofs.slot_ok.Statement.{statement}
 use Rattle.sound_slots.proofs.slot_ok.Tie as tie
@@ -20,6 +21,12 @@ at-bit-of c = c .before .before .before
 
 abbrev at-has : tie.After-used-slot → tie.After-has
 at-has c = c .before .before .before
+
+abbrev at-has₂ : tie.After-used-slot2 → tie.After-has
+at-has₂ c = c .before .before .before .before
+
+abbrev in-then1 : tie.After-used-slot2 → tie.Then1
+in-then1 c = c .before .before .before
 
 mul-committed-len : tie.Need-mul-committed-len
 mul-committed-len c = search needs
@@ -39,12 +46,6 @@ bit-of-requires c κs = search needs
 has-requires : tie.Need-has-requires
 has-requires c κs = search needs
 
-cast-has-writer : tie.Need-cast-has-writer
-cast-has-writer c = search needs
-
-has-writer-requires : tie.Need-has-writer-requires
-has-writer-requires c κs = search needs
-
 used-slot-requires : tie.Need-used-slot-requires
 used-slot-requires c κs = search needs
 
@@ -54,14 +55,32 @@ returns c =
     let has = at-has c in
     let start = entry has in
     λ i h. let s = whole start i h in
-    rw (← has .has .ensures, c .before .before .if1 .taken, ← has .before .bit-of .ensures, ← c .before .has-writer .ensures s) (c .used-slot .ensures (slotAt (start .args .k) s))
+    rw (← has .has .ensures, c .before .before .if1 .taken, ← has .before .bit-of .ensures)
+    (any-writer _ _ (hasWriter s (start .args .k)) (c .used-slot .ensures (slotAt (start .args .k) s)) (c .before .if2 .taken))
 
-unused-slot-requires : tie.Need-unused-slot-requires
-unused-slot-requires c κs = search needs
+cast-has-writer : tie.Need-cast-has-writer
+cast-has-writer c = search needs
+
+has-writer-requires : tie.Need-has-writer-requires
+has-writer-requires c κs = search needs
+
+used-slot-requires-2 : tie.Need-used-slot-requires-2
+used-slot-requires-2 c κs = search needs
 
 returns-2 : tie.Need-returns-2
 unfolding slotOk
 returns-2 c =
+    let has = at-has₂ c in
+    let start = entry has in
+    λ i h. let s = whole start i h in
+    rw (← has .has .ensures, in-then1 c .if1 .taken, ← has .before .bit-of .ensures, ← c .before .has-writer .ensures s) (c .used-slot2 .ensures (slotAt (start .args .k) s))
+
+unused-slot-requires : tie.Need-unused-slot-requires
+unused-slot-requires c κs = search needs
+
+returns-3 : tie.Need-returns-3
+unfolding slotOk
+returns-3 c =
     λ i h. rw (← c .before .before .has .ensures, c .before .if1 .left, ← at-bit-of c .bit-of .ensures)
     (c .unused-slot .ensures (slotAt (entry (c .before .before) .args .k) (whole (entry (c .before .before)) i h)))
 
@@ -75,9 +94,11 @@ slot-ok-spec =
     array-read-staged-len
     bit-of-requires
     has-requires
-    cast-has-writer
-    has-writer-requires
     used-slot-requires
     returns
+    cast-has-writer
+    has-writer-requires
+    used-slot-requires-2
+    returns-2
     unused-slot-requires
-    returns-2)
+    returns-3)
