@@ -36,14 +36,10 @@ use Rattle.rules.specs.Listing.{count, enumerated}
 use Rattle.rules.specs.Respond.{Effect, answered, respond}
 use Rattle.rules.specs.Searches.{none-found}
 use Rattle.rules.specs.Examples.{reply-is, refused-code}
+use Rattle.guarantees.specs.Merging.{ofSession}
 use Rattle.guarantees.specs.Sessions.{asked-of}
 
 -- ---- the table
--- the subcommands that name a session (rule 7.14)
-abbrev pub ofSession : (sub : ℕ) → Bool
-ofSession sub =
-    eqb sub readCommand || (eqb sub writeCommand || (eqb sub commitCommand || (eqb sub closeCommand || (eqb sub sessionStatCommand || eqb sub writeMetaCommand))))
-
 -- the session of row i is on a slot; it is on image or hash
 abbrev pub onSlot : ℕ → State → Bool
 onSlot i s = ltb (blob i s) slotCount

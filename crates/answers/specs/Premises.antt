@@ -43,10 +43,11 @@ use Rattle.rules.specs.Situations.{scanName, letterA, writer, writer-sound, wri
 use Rattle.rules.specs.Examples.{starred}
 use Rattle.rules.specs.Excluded.{moreau, only-the-whole-name, afterCommit, flashSize}
 use Rattle.guarantees.specs.FlashPart.{uploading-not-idle}
+use Rattle.guarantees.specs.Merging.{ofSession}
 use Rattle.answers.specs.Shown.{ShowsName, ShowsSession, NoneOn, session-stat-shows, stat-shows-session, stat-shows-scan, stat-shows-flash-session, stat-shows-flash, stat-shows-base}
 use Rattle.answers.specs.Jobs.{Committed, commit-starts, outcome-ends, outcome-without-job}
 use Rattle.answers.specs.OnlyCommit.{Own, only-commit-starts}
-use Rattle.answers.specs.BySession.{ofSession, session-codes, absent-code}
+use Rattle.answers.specs.BySession.{session-codes, absent-code}
 use Rattle.answers.specs.Faults.{frameFault, fault-code}
 use Rattle.answers.specs.ByName.{in-stat, delete-by-name, wrong-form}
 

@@ -43,16 +43,17 @@ use Rattle.rules.specs.Opening.{newRow, opened, newSlot, heldSlot, flashListed,
 use Rattle.rules.specs.Open.{openStore, openFlash, openBlob}
 use Rattle.rules.specs.Named.{deleteStore, deleteBlob}
 use Rattle.rules.specs.Respond.{Effect, effectOf, unsound, answered, respond}
+use Rattle.rules.specs.Excluded.{Lasting}
 use Rattle.rules.specs.Laws.{respond-is, other-rows, some-has, none-has}
 use Rattle.rules.specs.OpenLaws.{open-store-has, open-flash-has}
 use Rattle.rules.specs.Searches.{free-row, free-slot, named-slot, found-row, none-found, row-on, no-flash-row, session-row}
 use Rattle.rules.specs.Change.{Proper, row-new}
 use Rattle.guarantees.specs.Merging.{in-range, proper-row, on-row-sound}
-use Rattle.guarantees.specs.Keep.{swept-sound, respond-sound}
+use Rattle.guarantees.specs.Keep.{number-high, swept-sound, respond-sound}
 use Rattle.guarantees.specs.Refusals.{leftBy, leftIn, refused-message}
 use Rattle.scans.specs.Found.{named-at}
 use Rattle.scans.specs.Left.{absent-none, gone-absent}
-use Rattle.retries.specs.Twice.{Lasting, part-again, part-goes}
+use Rattle.retries.specs.Twice.{part-again, part-goes}
 
 -- what the same message does when it is sent again, at the same clock
 abbrev pub again : (t : ℕ) → List ℕ → State → Effect
@@ -273,13 +274,6 @@ still-listed Verify b h = h
 still-listed Update b h = h
 still-listed Cleanup b h = refl
 
-number-high : (k : FlashKind) → slotCount ≤ flashNumber k
-number-high Image = omega arith
-number-high Hash = omega arith
-number-high Verify = omega arith
-number-high Update = omega arith
-number-high Cleanup = omega arith
-
 module _ (k : FlashKind) (r flags t : ℕ) (s : State) (g : Sound s) (over : due t s ≡ false) (free : freeRowIn s ≡ some r) (allowed : flashFlags flags ≡ true)
     (listed : flashListed k (s .flashGroup .phase) ≡ true) where
   abbrev flashing : State
@@ -302,7 +296,7 @@ module _ (k : FlashKind) (r flags t : ℕ) (s : State) (g : Sound s) (over : due
   flash-busy = ap (openFlash k flags t) (swept-not t flashing flash-not-due) ∙ go (rowFound OnFlash flashing) refl
     where
       go : (o : Option ℕ) → rowFound OnFlash flashing ≡ o → openFlash k flags t flashing ≡ (refused busy, flashing)
-      go none e = absurd (no-flash-row flashing e r (free-row s r free .0, ap (λ (x : Row). x .used) flash-row) (subst (λ (b : ℕ). slotCount ≤ b) (sym (ap blobOf flash-row)) (number-high k)))
+      go none e = absurd (no-flash-row flashing e r (free-row s r free .0, ap (λ (x : Row). x .used) flash-row) (subst (λ (b : ℕ). slotCount ≤ b) (sym (ap blobOf flash-row)) (number-high k .0)))
       go (some q) e = rw (allowed, flash-listed, e)
 
 open-busy : (b : Blob) (flags t : ℕ) (m : List ℕ) (s : State) → Sound s → due t s ≡ false → Busy b flags t m (openBlob b flags t m s)

@@ -23,17 +23,8 @@ use Rattle.rules.specs.Store.{readStore, stored, writeStore, committedSlot, com
 use Rattle.rules.specs.Command.{Command, read, write, commit, stat, close, writeMeta, endJob, Out, refuse, placed, commitFits, bytesAfter, lengthAfter}
 use Rattle.rules.specs.Flash.{withPhase, withImage, withHash, writeFlash, startable, verifyJob, updateJob, commitKind, commitFlash, onFlash}
 use Rattle.rules.specs.Session.{onPart}
+use Rattle.rules.specs.Excluded.{Lasting}
 use Rattle.rules.specs.Laws.{placed-has, placed-fits}
-
--- every command of a message but Close
-abbrev pub Lasting : Command → Type 0
-Lasting (read offset n) = Unit {0}
-Lasting (write offset ws) = Unit {0}
-Lasting (commit len rest) = Unit {0}
-Lasting stat = Unit {0}
-Lasting close = ⊥
-Lasting writeMeta = Unit {0}
-Lasting (endJob good) = ⊥
 
 -- ---- a row of four words
 abbrev rowWith : (id bl word stamp used : ℕ) → Row
