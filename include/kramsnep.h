@@ -1,8 +1,13 @@
 /* kramsnep.h: the C interface of the verified blob library for IPMI management controllers.
+ * SPDX-License-Identifier: Apache-2.0
  *
  * The library answers the requests of the IPMI blob protocol: a store of 16 named blobs, and a firmware update by image, hash, verify, update
  * and cleanup. It is proved: for every input the result, and every word and byte of the memory lent to it, are those of its rules. This page
- * says how to call it from C.
+ * says how to call it from C, and has every number that a client of the protocol needs; docs/PROTOCOL.md has the rules.
+ *
+ * In this order: version; messages (frame, CRC, subcommands and their fields, flags, states, names, completion codes, times); the memory to
+ * lend and what stands in it; the two functions; the memory as one struct. The two functions are proved; the inline functions of this page are
+ * plain C, tested and not proved.
  *
  * Memory. The caller owns all memory and lends it for the time of a call. The library allocates nothing, has no global state and keeps no
  * pointer. Lend the same memory at each call, and write nothing into it in between: it is the whole state. (The answer buffer is no part of it.)
@@ -31,18 +36,126 @@
 extern "C" {
 #endif
 
-/* The lengths to lend: words for the first two, bytes for the others. */
-#define KRAMSNEP_CONTROL_WORDS 40
-#define KRAMSNEP_TABLE_WORDS 64
-#define KRAMSNEP_NAMES_SIZE 512
-#define KRAMSNEP_COMMITTED_SIZE 65536
-#define KRAMSNEP_STAGED_SIZE 65536
-#define KRAMSNEP_IMAGE_SIZE 16384
-#define KRAMSNEP_HASH_SIZE 64
-#define KRAMSNEP_ANSWER_SIZE 64
+/* ---- Version: semantic. Before 1.0.0 a minor version may change what is here; docs/CHANGELOG.md says what. */
+#define KRAMSNEP_VERSION_MAJOR 0
+#define KRAMSNEP_VERSION_MINOR 1
+#define KRAMSNEP_VERSION_PATCH 0
+#define KRAMSNEP_VERSION "0.1.0"
 
-/* A request is at most this long; so is a response. */
-#define KRAMSNEP_MESSAGE_SIZE 64
+/* ---- Messages
+ *
+ * The frame is the same for requests and responses. Numbers are little-endian, and fields follow each other without gaps:
+ *   0-2   OEM number 49871: CF C2 00
+ *   3     subcommand; a response has that of its request
+ *   4-5   CRC of the fields
+ *   6-    fields
+ * A message without fields ends behind the subcommand and has no CRC, but the response to a Read has one even when no data follow.
+ * Network function and command byte, which stand in front of a request (0x2E and 0x80 for the Phosphor blob commands), and the completion code
+ * in front of a response are no part of it. */
+#define KRAMSNEP_MESSAGE_SIZE 64 /* a request is at most this long; so is a response */
+#define KRAMSNEP_OEM_NUMBER 49871
+#define KRAMSNEP_OEM_BYTES 0xCF, 0xC2, 0x00 /* for an initializer: uint8_t message[] = {KRAMSNEP_OEM_BYTES, KRAMSNEP_COMMAND_COUNT} */
+#define KRAMSNEP_OEM_SIZE 3
+#define KRAMSNEP_SUBCOMMAND_AT 3
+#define KRAMSNEP_HEADER_SIZE 4
+#define KRAMSNEP_CRC_AT 4
+#define KRAMSNEP_CRC_SIZE 2
+#define KRAMSNEP_FIELDS_AT 6
+
+/* The CRC: a register of 16 bits starts at KRAMSNEP_CRC_START. Each byte is exclusive-ored into its upper half; then, eight times, the register
+ * is shifted left by one, and the polynomial is exclusive-ored in if the bit that left was 1. The register at the end is the CRC.
+ * The nine characters 123456789 give 0x29B1, no bytes 0xFFFF. */
+#define KRAMSNEP_CRC_START 0xFFFF
+#define KRAMSNEP_CRC_POLYNOMIAL 0x1021
+
+/* The CRC of n bytes; bytes may be null where n is 0. */
+static inline uint16_t kramsnep_crc(const uint8_t *bytes, size_t n)
+{
+    uint32_t crc = KRAMSNEP_CRC_START;
+    for (size_t i = 0; i < n; i++) {
+        crc ^= (uint32_t)bytes[i] << 8;
+        for (int bit = 0; bit < 8; bit++)
+            crc = ((crc & 0x8000u) != 0 ? (crc << 1) ^ KRAMSNEP_CRC_POLYNOMIAL : crc << 1) & 0xFFFFu;
+    }
+    return (uint16_t)crc;
+}
+
+/* The subcommands. For each: how long the request is in all, its fields, and those of the response; with a field its bytes, where they are
+ * fixed, and its offset in the message. A name ends with a NUL, which is the message's last byte; data end with the message.
+ *
+ *   subcommand       request      fields of the request                        fields of the response
+ *   0  Count         4            none                                         count (4) at 6
+ *   1  Enumerate     10           index (4) at 6                               name at 6
+ *   2  Open          9 or more    flags (2) at 6, name at 8                    session (2) at 6
+ *   3  Read          16           session (2) at 6, offset (4) at 8,           data at 6
+ *                                 count (4) at 12
+ *   4  Write         12 or more   session (2) at 6, offset (4) at 8,           none
+ *                                 data at 12
+ *   5  Commit        9 or more    session (2) at 6, commit length (1) at 8     none
+ *   6  Close         8            session (2) at 6                             none
+ *   7  Delete        7 or more    name at 6                                    none
+ *   8  Stat          7 or more    name at 6                                    state (2) at 6, size (4) at 8, metadata length (1) at 12
+ *   9  SessionStat   8            session (2) at 6                             state (2) at 6, size (4) at 8, metadata length (1) at 12
+ *   10 WriteMeta     12 or more   session (2) at 6                             none
+ *
+ * The commit length must be 0, so that an accepted Commit has 9 bytes; the metadata length is 0. A WriteMeta is always refused. */
+#define KRAMSNEP_COMMAND_COUNT 0
+#define KRAMSNEP_COMMAND_ENUMERATE 1
+#define KRAMSNEP_COMMAND_OPEN 2
+#define KRAMSNEP_COMMAND_READ 3
+#define KRAMSNEP_COMMAND_WRITE 4
+#define KRAMSNEP_COMMAND_COMMIT 5
+#define KRAMSNEP_COMMAND_CLOSE 6
+#define KRAMSNEP_COMMAND_DELETE 7
+#define KRAMSNEP_COMMAND_STAT 8
+#define KRAMSNEP_COMMAND_SESSION_STAT 9
+#define KRAMSNEP_COMMAND_WRITE_META 10
+
+/* The offsets of that table. In requests: */
+#define KRAMSNEP_INDEX_AT 6
+#define KRAMSNEP_FLAGS_AT 6
+#define KRAMSNEP_OPEN_NAME_AT 8
+#define KRAMSNEP_NAME_AT 6          /* Delete, Stat; and in the response to an Enumerate */
+#define KRAMSNEP_SESSION_AT 6       /* Read, Write, Commit, Close, SessionStat, WriteMeta; and in the response to an Open */
+#define KRAMSNEP_OFFSET_AT 8        /* Read, Write */
+#define KRAMSNEP_READ_COUNT_AT 12
+#define KRAMSNEP_WRITE_DATA_AT 12
+#define KRAMSNEP_COMMIT_LENGTH_AT 8
+/* In responses: */
+#define KRAMSNEP_COUNT_AT 6
+#define KRAMSNEP_READ_DATA_AT 6
+#define KRAMSNEP_STATE_AT 6         /* Stat, SessionStat; so are the next two */
+#define KRAMSNEP_SIZE_AT 8
+#define KRAMSNEP_METADATA_LENGTH_AT 12
+
+/* The most bytes of data in a Write, and in the response to a Read. */
+#define KRAMSNEP_WRITE_MOST 52
+#define KRAMSNEP_READ_MOST 58
+
+/* Open flags. A store name is opened with READ or READ_WRITE, a flash name with WRITE. */
+#define KRAMSNEP_FLAGS_READ 0x0001
+#define KRAMSNEP_FLAGS_WRITE 0x0002
+#define KRAMSNEP_FLAGS_READ_WRITE 0x0003
+
+/* The bits of a blob's state, as Stat and SessionStat send it. */
+#define KRAMSNEP_STATE_OPEN_READ 0x0001    /* its session has READ */
+#define KRAMSNEP_STATE_OPEN_WRITE 0x0002   /* its session has WRITE */
+#define KRAMSNEP_STATE_COMMITTING 0x0004   /* its job runs */
+#define KRAMSNEP_STATE_COMMITTED 0x0008    /* its job or its cleanup succeeded; of a store blob: what is shown is what is committed */
+#define KRAMSNEP_STATE_COMMIT_ERROR 0x0010 /* its job failed */
+
+/* Names: 1 to KRAMSNEP_NAME_MOST bytes, none of them NUL, then the NUL. Small and capital letters differ. There are
+ * - store names: the base, and behind it 1 to KRAMSNEP_STORE_NAME_MOST ASCII letters or digits;
+ * - the five flash names;
+ * - the base alone, which is listed and has a Stat, but is not opened, written or deleted. */
+#define KRAMSNEP_NAME_MOST 31
+#define KRAMSNEP_STORE_NAME_MOST 25
+#define KRAMSNEP_NAME_BASE "/scan/"
+#define KRAMSNEP_NAME_IMAGE "/flash/image"
+#define KRAMSNEP_NAME_HASH "/flash/hash"
+#define KRAMSNEP_NAME_VERIFY "/flash/verify"
+#define KRAMSNEP_NAME_UPDATE "/flash/update"
+#define KRAMSNEP_NAME_CLEANUP "/flash/cleanup"
 
 /* Completion codes. A refusal (any code but KRAMSNEP_SUCCESS) leaves all lent memory as it was, with one exception: an Open that is refused keeps
  * what its sweep did. */
@@ -58,9 +171,22 @@ extern "C" {
 #define KRAMSNEP_NOT_SUPPORTED 0xD5   /* this blob or session has no such command, or no job runs whose outcome could be taken */
 #define KRAMSNEP_NOT_SOUND 0xFF       /* a lent length is wrong, or the state is damaged */
 
-/* The two parts of kramsnep_respond's result: completion code, and length of the response (0 for a refusal). */
-#define KRAMSNEP_CODE(result) ((uint8_t)((result) & 0xFFu))
-#define KRAMSNEP_LENGTH(result) ((size_t)((result) >> 8))
+/* Times, in seconds of the caller's clock. An Open sweeps if the last sweep was KRAMSNEP_SWEEP_EVERY seconds ago or more: it closes the sessions
+ * that were not used for more than KRAMSNEP_SESSION_LIFE seconds and have no running job. */
+#define KRAMSNEP_SWEEP_EVERY 60
+#define KRAMSNEP_SESSION_LIFE 600
+
+/* ---- Memory
+ *
+ * The lengths to lend: words for the first two, bytes for the others. */
+#define KRAMSNEP_CONTROL_WORDS 40
+#define KRAMSNEP_TABLE_WORDS 64
+#define KRAMSNEP_NAMES_SIZE 512
+#define KRAMSNEP_COMMITTED_SIZE 65536
+#define KRAMSNEP_STAGED_SIZE 65536
+#define KRAMSNEP_IMAGE_SIZE 16384
+#define KRAMSNEP_HASH_SIZE 64
+#define KRAMSNEP_ANSWER_SIZE 64
 
 /* The control block, 40 words:
  *   0       mask of session rows in use, bit r for row r
@@ -96,6 +222,10 @@ extern "C" {
  * staged; only as many as its two lengths say are its contents. */
 #define KRAMSNEP_ROWS 16
 #define KRAMSNEP_ROW_WORDS 4
+#define KRAMSNEP_ROW_IDENTIFIER 0
+#define KRAMSNEP_ROW_BLOB 1
+#define KRAMSNEP_ROW_FLAGS 2
+#define KRAMSNEP_ROW_STAMP 3
 #define KRAMSNEP_SLOTS 16
 #define KRAMSNEP_NAME_SIZE 32
 #define KRAMSNEP_SLOT_SIZE 4096
@@ -106,18 +236,24 @@ extern "C" {
 #define KRAMSNEP_BLOB_UPDATE 19
 #define KRAMSNEP_BLOB_CLEANUP 20
 
+/* The job status in a row's word KRAMSNEP_ROW_FLAGS. */
 #define KRAMSNEP_JOB_STATUS(word) (((word) >> 16) & 3u)
 #define KRAMSNEP_JOB_UNTRIED 0
 #define KRAMSNEP_JOB_RUNNING 1
 #define KRAMSNEP_JOB_SUCCEEDED 2
 #define KRAMSNEP_JOB_FAILED 3
 
+/* ---- The two functions */
+
+/* The two parts of kramsnep_respond's result: completion code, and length of the response (0 for a refusal). */
+#define KRAMSNEP_CODE(result) ((uint8_t)((result) & 0xFFu))
+#define KRAMSNEP_LENGTH(result) ((size_t)((result) >> 8))
+
 /* Answers one request.
  *
  * request, request_len: the message as it came, from the OEM number on (network function and command byte are not part of it). Any length may be
  *   passed, 0 too; above 64 it is refused.
- * clock: seconds, from any start. It stamps sessions. An Open first sweeps, if the last sweep was 60 seconds ago or more: it closes the sessions
- *   that were not used for more than 600 seconds and have no running job. The clock may run backward.
+ * clock: seconds, from any start. It stamps sessions, and an Open sweeps by it (see Times). It may run backward.
  * answer: on success the response stands in its first KRAMSNEP_LENGTH(result) bytes, and the bytes behind keep their values; a refusal changes none.
  *
  * The result is the completion code in the lowest byte and the length of the response above it. */
@@ -133,9 +269,9 @@ uint32_t kramsnep_respond(const uint8_t *request, size_t request_len, uint32_t c
 
 /* Takes the outcome of the running job: verdict is KRAMSNEP_VERDICT_GOOD or KRAMSNEP_VERDICT_FAILED.
  *
- * A Commit on verify or update starts a job: the row of that session then has the status KRAMSNEP_JOB_RUNNING. The caller sees it there after a
- * request, does the work (verify the image against the hash; install the image), and reports by this call. At most one job runs at a time.
- * Only the session's row changes.
+ * A Commit on verify or update starts a job: the row of that session then has the status KRAMSNEP_JOB_RUNNING. The caller sees it after a request
+ * (kramsnep_running_job), does the work (verify the image against the hash; install the image), and reports by this call. At most one job runs
+ * at a time. Only the session's row changes.
  *
  * The result is the completion code: KRAMSNEP_SUCCESS, or a refusal, which changes nothing. They are tested in this order:
  *   KRAMSNEP_NOT_SOUND      a lent length is wrong, or the state is damaged
@@ -146,7 +282,22 @@ uint32_t kramsnep_job_outcome(uint32_t verdict, const uint32_t *control, size_t 
                               const uint8_t *staged, size_t staged_len, const uint8_t *image, size_t image_len,
                               const uint8_t *hash, size_t hash_len);
 
-/* ---- all of it in one place, for callers who keep it so */
+/* Which job runs: KRAMSNEP_BLOB_VERIFY, KRAMSNEP_BLOB_UPDATE, or -1 if none does. It reads the mask of rows in use in the control block and, of
+ * each row in use, blob and job status; nothing else, and nothing of the other rows. It changes nothing, and does not test the state: of damaged
+ * memory too it gives one of the three. */
+static inline int kramsnep_running_job(const uint32_t *control, const uint32_t *table)
+{
+    for (int row = 0; row < KRAMSNEP_ROWS; row++) {
+        const uint32_t *words = table + row * KRAMSNEP_ROW_WORDS;
+        if (((control[KRAMSNEP_CONTROL_ROWS] >> row) & 1u) == 0 || KRAMSNEP_JOB_STATUS(words[KRAMSNEP_ROW_FLAGS]) != KRAMSNEP_JOB_RUNNING)
+            continue;
+        if (words[KRAMSNEP_ROW_BLOB] == KRAMSNEP_BLOB_VERIFY || words[KRAMSNEP_ROW_BLOB] == KRAMSNEP_BLOB_UPDATE)
+            return (int)words[KRAMSNEP_ROW_BLOB];
+    }
+    return -1;
+}
+
+/* ---- All of it in one place, for callers who keep it so */
 
 struct kramsnep_memory {
     uint32_t control[KRAMSNEP_CONTROL_WORDS];
@@ -164,6 +315,12 @@ static inline uint32_t kramsnep_respond_in(struct kramsnep_memory *m, const uint
     return kramsnep_respond(request, request_len, clock, m->control, KRAMSNEP_CONTROL_WORDS, m->table, KRAMSNEP_TABLE_WORDS,
                             m->names, KRAMSNEP_NAMES_SIZE, m->committed, KRAMSNEP_COMMITTED_SIZE, m->staged, KRAMSNEP_STAGED_SIZE,
                             m->image, KRAMSNEP_IMAGE_SIZE, m->hash, KRAMSNEP_HASH_SIZE, answer, KRAMSNEP_ANSWER_SIZE);
+}
+
+/* kramsnep_running_job on memory of that type. */
+static inline int kramsnep_running_job_in(const struct kramsnep_memory *m)
+{
+    return kramsnep_running_job(m->control, m->table);
 }
 
 /* kramsnep_job_outcome on memory of that type. */

@@ -1,12 +1,19 @@
 #!/bin/sh
-# Builds upload.c against the library and compares what it prints with upload.expected. Run anywhere; first `rt staticlib capi`.
+# Builds upload.c against the library and compares what it prints with upload.expected; then gives it a name that the library refuses, which it must
+# notice, and compares with refused.expected. Run anywhere; first `rt staticlib capi`.
 set -eu
 cd "$(dirname "$0")/../.."
 library=target/staticlib/libcapi.a
 [ -f "$library" ] || { echo "$library is not there: run 'rt staticlib capi' first" >&2; exit 1; }
 out=$(mktemp -d)
 trap 'rm -rf "$out"' EXIT
-${CC:-cc} -std=c99 -Wall -Wextra -Werror -O2 -Iinclude examples/c/upload.c "$library" -o "$out/upload"
+${CC:-cc} -std=c99 -Wall -Wextra -Wpedantic -Werror -O2 -Iinclude examples/c/upload.c "$library" -o "$out/upload"
 "$out/upload" >"$out/printed"
 diff examples/c/upload.expected "$out/printed"
 echo "upload: as expected"
+if "$out/upload" /scan/no-store-name >"$out/printed" 2>"$out/said"; then
+  echo "upload /scan/no-store-name: ended as if nothing had been refused" >&2
+  exit 1
+fi
+cat "$out/printed" "$out/said" | diff examples/c/refused.expected -
+echo "upload of a name that is refused: noticed, as expected"

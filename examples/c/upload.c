@@ -1,117 +1,141 @@
-/* Uploads a scan through the C interface, reads it back, and runs one verify job. Each line: what was asked, the completion code, the response. */
+/* Uploads a scan through the C interface, reads it back, and runs one verify job. Each line: what was asked, the completion code, the response.
+ * Every completion code is checked: one that is not expected ends the program with status 1, and nothing is read from the answer to a refusal.
+ *
+ * upload [NAME]: the scan's name, /scan/moreau without one. */
 #include <stdio.h>
+#include <stdlib.h>
 #include <string.h>
 
 #include "kramsnep.h"
 
-enum { OPEN = 2, READ = 3, WRITE = 4, COMMIT = 5, CLOSE = 6, SESSION_STAT = 9 };
-
 static struct kramsnep_memory memory; /* zero: the fresh state */
-static uint8_t answer[KRAMSNEP_ANSWER_SIZE];
+static uint8_t message[KRAMSNEP_MESSAGE_SIZE] = {KRAMSNEP_OEM_BYTES}, answer[KRAMSNEP_ANSWER_SIZE];
 static uint32_t seconds;
 
-/* CRC-16, polynomial 0x1021, from 0xFFFF, high bit first. */
-static uint16_t crc16(const uint8_t *bytes, size_t n)
+static void must(int holds, const char *what, const char *wrong)
 {
-    uint32_t crc = 0xFFFF;
-    for (size_t i = 0; i < n; i++) {
-        crc ^= (uint32_t)bytes[i] << 8;
-        for (int bit = 0; bit < 8; bit++)
-            crc = (crc & 0x8000) ? (crc << 1) ^ 0x1021 : crc << 1;
+    if (!holds) {
+        fprintf(stderr, "%s: %s\n", what, wrong);
+        exit(1);
     }
-    return (uint16_t)crc;
 }
 
-/* The n lowest bytes of a number, lowest first. */
-static size_t put(uint8_t *at, uint32_t number, size_t n)
+/* A number of the message or the answer, n bytes, lowest first. */
+static void put(size_t at, uint32_t number, size_t n)
 {
     for (size_t i = 0; i < n; i++)
-        at[i] = (uint8_t)(number >> (8 * i));
-    return n;
+        message[at + i] = (uint8_t)(number >> (8 * i));
 }
 
-/* Frames the fields, sends them, prints code and response; the response's fields stand in the answer buffer from byte 6 on. */
-static size_t ask(const char *what, uint8_t subcommand, const uint8_t *fields, size_t n)
+static uint32_t get(size_t at, size_t n)
 {
-    uint8_t message[KRAMSNEP_MESSAGE_SIZE] = {0xCF, 0xC2, 0x00, subcommand};
-    put(message + 4, crc16(fields, n), 2);
-    memcpy(message + 6, fields, n);
-    uint32_t result = kramsnep_respond_in(&memory, message, 6 + n, seconds++, answer);
-    printf("%s: %02X", what, KRAMSNEP_CODE(result));
-    for (size_t i = 0; i < KRAMSNEP_LENGTH(result); i++)
-        printf("%s%02X", i == 0 ? " " : "", answer[i]);
+    uint32_t number = 0;
+    for (size_t i = 0; i < n; i++)
+        number |= (uint32_t)answer[at + i] << (8 * i);
+    return number;
+}
+
+/* Sends the message, which has this length and its fields in place; gives the length of the response, which is 0 for a refusal. */
+static size_t ask(const char *what, uint8_t subcommand, size_t n, uint8_t expected)
+{
+    message[KRAMSNEP_SUBCOMMAND_AT] = subcommand;
+    put(KRAMSNEP_CRC_AT, kramsnep_crc(message + KRAMSNEP_FIELDS_AT, n - KRAMSNEP_FIELDS_AT), KRAMSNEP_CRC_SIZE);
+    uint32_t result = kramsnep_respond_in(&memory, message, n, seconds++, answer);
+    size_t length = KRAMSNEP_LENGTH(result);
+    printf("%s: %02X%s", what, KRAMSNEP_CODE(result), length > 0 ? " " : "");
+    for (size_t i = 0; i < length; i++)
+        printf("%02X", answer[i]);
     printf("\n");
-    return KRAMSNEP_LENGTH(result);
+    must(KRAMSNEP_CODE(result) == expected, what, "not the completion code that was expected");
+    if (length > KRAMSNEP_HEADER_SIZE)
+        must(get(KRAMSNEP_CRC_AT, KRAMSNEP_CRC_SIZE) == kramsnep_crc(answer + KRAMSNEP_FIELDS_AT, length - KRAMSNEP_FIELDS_AT), what, "wrong CRC");
+    return length;
 }
 
-static uint16_t open_blob(const char *what, uint16_t flags, const char *name)
+/* The session, where the Open is accepted. */
+static uint16_t open_blob(const char *what, uint16_t flags, const char *name, uint8_t expected)
 {
-    uint8_t fields[58];
-    size_t n = put(fields, flags, 2);
-    memcpy(fields + n, name, strlen(name) + 1);
-    ask(what, OPEN, fields, n + strlen(name) + 1);
-    return (uint16_t)(answer[6] | answer[7] << 8);
+    must(strlen(name) <= KRAMSNEP_NAME_MOST, name, "too long for a name");
+    put(KRAMSNEP_FLAGS_AT, flags, 2);
+    memcpy(message + KRAMSNEP_OPEN_NAME_AT, name, strlen(name) + 1);
+    return ask(what, KRAMSNEP_COMMAND_OPEN, KRAMSNEP_OPEN_NAME_AT + strlen(name) + 1, expected) > 0 ? (uint16_t)get(KRAMSNEP_SESSION_AT, 2) : 0;
 }
 
 static void on_session(const char *what, uint8_t subcommand, uint16_t session)
 {
-    uint8_t fields[3] = {0};
-    ask(what, subcommand, fields, put(fields, session, 2) + (subcommand == COMMIT)); /* Commit: no commit data, length byte 0 */
+    put(KRAMSNEP_SESSION_AT, session, 2);
+    message[KRAMSNEP_COMMIT_LENGTH_AT] = 0; /* a Commit has this byte behind the session, the others end there */
+    ask(what, subcommand, KRAMSNEP_SESSION_AT + 2 + (subcommand == KRAMSNEP_COMMAND_COMMIT), KRAMSNEP_SUCCESS);
 }
 
-static void write_at(uint16_t session, uint32_t offset, const char *bytes, size_t n)
+static void write_all(uint16_t session, const char *bytes, size_t n)
 {
-    uint8_t fields[58];
-    size_t at = put(fields, session, 2);
-    at += put(fields + at, offset, 4);
-    memcpy(fields + at, bytes, n);
-    ask("write", WRITE, fields, at + n);
+    for (size_t at = 0, part; at < n; at += part) {
+        part = n - at < KRAMSNEP_WRITE_MOST ? n - at : KRAMSNEP_WRITE_MOST;
+        put(KRAMSNEP_SESSION_AT, session, 2);
+        put(KRAMSNEP_OFFSET_AT, (uint32_t)at, 4);
+        memcpy(message + KRAMSNEP_WRITE_DATA_AT, bytes + at, part);
+        ask("write", KRAMSNEP_COMMAND_WRITE, KRAMSNEP_WRITE_DATA_AT + part, KRAMSNEP_SUCCESS);
+    }
 }
 
-static size_t read_at(uint16_t session, uint32_t offset, char *bytes)
+/* Reads until a response is not full. */
+static size_t read_all(uint16_t session, char bytes[KRAMSNEP_SLOT_SIZE])
 {
-    uint8_t fields[10];
-    size_t at = put(fields, session, 2);
-    at += put(fields + at, offset, 4);
-    size_t n = ask("read", READ, fields, at + put(fields + at, 58, 4));
-    if (n < 6)
-        return 0;
-    memcpy(bytes, answer + 6, n - 6);
-    return n - 6;
+    size_t at = 0, part = KRAMSNEP_READ_MOST;
+    while (part == KRAMSNEP_READ_MOST) {
+        put(KRAMSNEP_SESSION_AT, session, 2);
+        put(KRAMSNEP_OFFSET_AT, (uint32_t)at, 4);
+        put(KRAMSNEP_READ_COUNT_AT, KRAMSNEP_READ_MOST, 4);
+        part = ask("read", KRAMSNEP_COMMAND_READ, KRAMSNEP_READ_COUNT_AT + 4, KRAMSNEP_SUCCESS) - KRAMSNEP_READ_DATA_AT;
+        must(part <= KRAMSNEP_SLOT_SIZE - at, "read", "more than a scan can have");
+        memcpy(bytes + at, answer + KRAMSNEP_READ_DATA_AT, part);
+        at += part;
+    }
+    return at;
 }
 
-int main(void)
+static void job_outcome(const char *what, uint32_t verdict, uint32_t expected)
+{
+    uint32_t code = kramsnep_job_outcome_in(&memory, verdict);
+    printf("%s: %02X\n", what, (unsigned)code);
+    must(code == expected, what, "not the completion code that was expected");
+}
+
+int main(int count, char **words)
 {
     static const char scan[] = "The quick brown fox jumps over the lazy dog; this line is sent in two parts and must come back whole";
-    char back[128] = {0};
+    static char back[KRAMSNEP_SLOT_SIZE];
+    const char *name = count > 1 ? words[1] : KRAMSNEP_NAME_BASE "moreau";
 
-    uint16_t session = open_blob("open /scan/moreau to write", 0x0003, "/scan/moreau");
-    write_at(session, 0, scan, 52);
-    write_at(session, 52, scan + 52, strlen(scan) - 52);
-    on_session("commit", COMMIT, session);
-    on_session("close", CLOSE, session);
+    (void)open_blob("open to read, before it is there", KRAMSNEP_FLAGS_READ, name, KRAMSNEP_NOT_FOUND);
+    uint16_t session = open_blob("open to write", KRAMSNEP_FLAGS_READ_WRITE, name, KRAMSNEP_SUCCESS);
+    write_all(session, scan, strlen(scan));
+    on_session("commit", KRAMSNEP_COMMAND_COMMIT, session);
+    on_session("close", KRAMSNEP_COMMAND_CLOSE, session);
 
-    session = open_blob("open /scan/moreau to read", 0x0001, "/scan/moreau");
-    size_t n = read_at(session, 0, back);
-    n += read_at(session, (uint32_t)n, back + n);
-    on_session("close", CLOSE, session);
-    printf("%zu bytes came back, %s: %s\n", n, strcmp(back, scan) == 0 ? "the same" : "DIFFERENT", back);
+    session = open_blob("open to read", KRAMSNEP_FLAGS_READ, name, KRAMSNEP_SUCCESS);
+    size_t n = read_all(session, back);
+    on_session("close", KRAMSNEP_COMMAND_CLOSE, session);
+    must(n == strlen(scan) && memcmp(back, scan, n) == 0, name, "not what was written");
+    printf("%zu bytes came back, the same: %.*s\n", n, (int)n, back);
 
-    session = open_blob("open /flash/image", 0x0002, "/flash/image");
-    write_at(session, 0, "firmware", 8);
-    on_session("close", CLOSE, session);
-    session = open_blob("open /flash/verify", 0x0002, "/flash/verify");
-    on_session("commit", COMMIT, session);
-    for (int row = 0; row < KRAMSNEP_ROWS; row++) /* which job is to be done? */
-        if (KRAMSNEP_JOB_STATUS(memory.table[row * KRAMSNEP_ROW_WORDS + 2]) == KRAMSNEP_JOB_RUNNING)
-            printf("job: blob %u\n", (unsigned)memory.table[row * KRAMSNEP_ROW_WORDS + 1]);
-    printf("job outcome: %02X\n", (unsigned)kramsnep_job_outcome_in(&memory, KRAMSNEP_VERDICT_GOOD));
-    on_session("session stat", SESSION_STAT, session);
-    on_session("close", CLOSE, session);
-    printf("phase: %u\n", (unsigned)memory.control[KRAMSNEP_CONTROL_PHASE]);
-    printf("second job outcome: %02X\n", (unsigned)kramsnep_job_outcome_in(&memory, KRAMSNEP_VERDICT_GOOD));
-    printf("no verdict: %02X\n", (unsigned)kramsnep_job_outcome_in(&memory, 2));
-    memory.control[KRAMSNEP_CONTROL_PHASE] = 3;
-    printf("damaged control block: %02X\n", (unsigned)kramsnep_job_outcome_in(&memory, 2));
+    session = open_blob("open the image", KRAMSNEP_FLAGS_WRITE, KRAMSNEP_NAME_IMAGE, KRAMSNEP_SUCCESS);
+    write_all(session, "firmware", 8);
+    on_session("close", KRAMSNEP_COMMAND_CLOSE, session);
+    session = open_blob("open verify", KRAMSNEP_FLAGS_WRITE, KRAMSNEP_NAME_VERIFY, KRAMSNEP_SUCCESS);
+    job_outcome("job outcome without a job", KRAMSNEP_VERDICT_GOOD, KRAMSNEP_NOT_SUPPORTED);
+    on_session("commit", KRAMSNEP_COMMAND_COMMIT, session);
+    must(kramsnep_running_job_in(&memory) == KRAMSNEP_BLOB_VERIFY, "commit", "no verify job runs"); /* here the image is verified */
+    job_outcome("job outcome that is no verdict", 2, KRAMSNEP_INVALID);
+    job_outcome("job outcome", KRAMSNEP_VERDICT_GOOD, KRAMSNEP_SUCCESS);
+    must(kramsnep_running_job_in(&memory) == -1, "job outcome", "the job still runs");
+    on_session("session stat", KRAMSNEP_COMMAND_SESSION_STAT, session);
+    must((get(KRAMSNEP_STATE_AT, 2) & KRAMSNEP_STATE_COMMITTED) != 0, "session stat", "the job did not succeed");
+    on_session("close", KRAMSNEP_COMMAND_CLOSE, session);
+    must(memory.control[KRAMSNEP_CONTROL_PHASE] == KRAMSNEP_VERIFIED, "close", "the image is not verified");
+
+    memory.control[KRAMSNEP_CONTROL_PHASE] = KRAMSNEP_VERIFIED + 1;
+    job_outcome("damaged control block, and no verdict", 2, KRAMSNEP_NOT_SOUND);
     return 0;
 }

@@ -1,0 +1,344 @@
+#!/usr/bin/env python3
+"""include/kramsnep.h says what the definitions say, so that a client can be written from it.
+
+header.py --check    needs a C compiler (CC, or cc); C++ is tried where there is a compiler for it (CXX, or c++)
+
+- It compiles alone, as C99 and as C++11, without a warning.
+- Each of its numbers is the value of the definition that NUMBERS names for it, in the specs and, where the code has the number too, in the code; no number of the header is
+  without a definition, and no number of Numbers.antt is missing that a client needs.
+- The table of requests and responses in its comment is that of Decode.antt and of the replies. Names, OEM bytes and version are those of Names.antt, of Numbers.antt and of the
+  first entry of docs/CHANGELOG.md.
+- kramsnep_crc gives the worked values and what Python's own CRC gives; kramsnep_running_job and the macros with an argument give what the layout of a row and of a result says.
+
+Values of the header are those that a compiled program prints; definitions are read from the files."""
+import binascii
+import os
+import pathlib
+import random
+import re
+import shutil
+import subprocess
+import sys
+import tempfile
+
+ROOT = pathlib.Path(__file__).resolve().parent.parent
+HEADER = ROOT / "include" / "kramsnep.h"
+PREFIX = "KRAMSNEP_"
+SPECS = ("protocol/specs/Numbers", "protocol/specs/Decode", "protocol/specs/Names", "rules/specs/Messages", "crc/specs/Crc", "capi_control/specs/Words", "capi/specs/Call")
+CODE = ("protocol", "state", "crc", "open_sweep", "capi_control", "capi")
+STRICT = ("-Wall", "-Wextra", "-Wpedantic", "-Werror")
+
+# What each number of the header is by the definitions: one or several, all of the same value. A name with a capital letter and `::` is a constant of the code.
+NUMBERS = {
+    "MESSAGE_SIZE": "messageSize, protocol::MESSAGE_SIZE", "OEM_SIZE": "len(oem), protocol::OEM_SIZE", "SUBCOMMAND_AT": "len(oem), subcommand",
+    "HEADER_SIZE": "headerSize, protocol::HEADER_SIZE", "CRC_AT": "headerSize", "CRC_SIZE": "crcSize", "FIELDS_AT": "fieldsAt, protocol::FIELDS_AT",
+    "CRC_START": "start, crc::START", "CRC_POLYNOMIAL": "poly",
+    "COMMAND_COUNT": "countCommand, protocol::Subcommand::COUNT", "COMMAND_ENUMERATE": "enumerateCommand, protocol::Subcommand::ENUMERATE",
+    "COMMAND_OPEN": "openCommand, protocol::Subcommand::OPEN", "COMMAND_READ": "readCommand, protocol::Subcommand::READ",
+    "COMMAND_WRITE": "writeCommand, protocol::Subcommand::WRITE", "COMMAND_COMMIT": "commitCommand, protocol::Subcommand::COMMIT",
+    "COMMAND_CLOSE": "closeCommand, protocol::Subcommand::CLOSE", "COMMAND_DELETE": "deleteCommand, protocol::Subcommand::DELETE",
+    "COMMAND_STAT": "statCommand, protocol::Subcommand::STAT", "COMMAND_SESSION_STAT": "sessionStatCommand, protocol::Subcommand::SESSION_STAT",
+    "COMMAND_WRITE_META": "writeMetaCommand, protocol::Subcommand::WRITE_META",
+    "INDEX_AT": "Enumerate.index", "FLAGS_AT": "Open.flags", "OPEN_NAME_AT": "Open.name", "NAME_AT": "Delete.name, Stat.name, fieldsAt",
+    "SESSION_AT": "Read.session, Write.session, Commit.session, Close.session, SessionStat.session, WriteMeta.session, fieldsAt",
+    "OFFSET_AT": "Read.offset, Write.offset", "READ_COUNT_AT": "Read.count", "WRITE_DATA_AT": "Write.data", "COMMIT_LENGTH_AT": "Commit.commitLength",
+    "COUNT_AT": "fieldsAt", "READ_DATA_AT": "fieldsAt", "STATE_AT": "fieldsAt", "SIZE_AT": "fieldsAt + stateWidth", "METADATA_LENGTH_AT": "fieldsAt + stateWidth + sizeWidth",
+    "WRITE_MOST": "writeMost, messageSize - Write.data", "READ_MOST": "readMost, protocol::READ_MOST, messageSize - fieldsAt",
+    "FLAGS_READ": "readOnly, protocol::Flags::READ", "FLAGS_WRITE": "writeOnly, protocol::Flags::WRITE", "FLAGS_READ_WRITE": "readWrite, protocol::Flags::READ_WRITE",
+    "STATE_OPEN_READ": "stateOpenRead, protocol::BlobState::OPEN_READ", "STATE_OPEN_WRITE": "stateOpenWrite, protocol::BlobState::OPEN_WRITE",
+    "STATE_COMMITTING": "stateCommitting, protocol::BlobState::COMMITTING", "STATE_COMMITTED": "stateCommitted, protocol::BlobState::COMMITTED",
+    "STATE_COMMIT_ERROR": "stateCommitError, protocol::BlobState::COMMIT_ERROR",
+    "NAME_MOST": "nameMost, protocol::NAME_MOST", "STORE_NAME_MOST": "storeNameMost, protocol::STORE_NAME_MOST, nameMost - len(base)",
+    "SUCCESS": "success, protocol::Code::SUCCESS", "BUSY": "busy, protocol::Code::BUSY", "UNKNOWN_COMMAND": "unknownCommand, protocol::Code::UNKNOWN_COMMAND",
+    "NO_ROOM": "noRoom, protocol::Code::NO_ROOM", "WRONG_LENGTH": "wrongLength, protocol::Code::WRONG_LENGTH", "TOO_LONG": "tooLong, protocol::Code::TOO_LONG",
+    "OUT_OF_RANGE": "outOfRange, protocol::Code::OUT_OF_RANGE", "NOT_FOUND": "notFound, protocol::Code::NOT_FOUND", "INVALID": "invalid, protocol::Code::INVALID",
+    "NOT_SUPPORTED": "notSupported, protocol::Code::NOT_SUPPORTED", "NOT_SOUND": "notSound, protocol::Code::NOT_SOUND",
+    "SWEEP_EVERY": "sweepEvery, open_sweep::SWEEP_EVERY", "SESSION_LIFE": "sessionLife, open_sweep::SESSION_LIFE",
+    "CONTROL_WORDS": "controlSize, capi_control::CONTROL_WORDS", "TABLE_WORDS": "rowCount * rowWords", "NAMES_SIZE": "slotCount * nameSize",
+    "COMMITTED_SIZE": "slotCount * slotSize", "STAGED_SIZE": "slotCount * slotSize", "IMAGE_SIZE": "imageSize, state::IMAGE_SIZE", "HASH_SIZE": "hashSize, state::HASH_SIZE",
+    "ANSWER_SIZE": "answerSize, protocol::ANSWER_SIZE",
+    "CONTROL_ROWS": "word.rows", "CONTROL_SLOTS": "word.slots", "CONTROL_COMMITTED": "word.marks",
+    "CONTROL_COMMITTED_LENGTHS": "committedLensAt, capi_control::COMMITTED_LENS_AT", "CONTROL_STAGED_LENGTHS": "stagedLensAt, capi_control::STAGED_LENS_AT",
+    "CONTROL_PHASE": "phaseAt, capi_control::PHASE_AT", "CONTROL_IMAGE_LENGTH": "imageLenAt, capi_control::IMAGE_LEN_AT", "CONTROL_HASH_LENGTH": "hashLenAt, capi_control::HASH_LEN_AT",
+    "CONTROL_NEXT": "nextAt, capi_control::NEXT_AT", "CONTROL_LAST_SWEEP": "lastSweepAt, capi_control::LAST_SWEEP_AT",
+    "IDLE": "phaseNumber.Idle", "UPLOADING": "phaseNumber.Uploading", "VERIFIED": "phaseNumber.Verified, capi_control::VERIFIED",
+    "ROWS": "rowCount, state::ROWS", "ROW_WORDS": "rowWords, state::ROW_WORDS", "ROW_IDENTIFIER": "idOf", "ROW_BLOB": "blobOf", "ROW_FLAGS": "wordOf", "ROW_STAMP": "stampOf",
+    "SLOTS": "slotCount, state::SLOTS", "NAME_SIZE": "nameSize, state::NAME_SIZE", "SLOT_SIZE": "slotSize, state::SLOT_SIZE",
+    "BLOB_IMAGE": "imageBlob, flashNumber.Image", "BLOB_HASH": "hashBlob, flashNumber.Hash", "BLOB_VERIFY": "verifyBlob, flashNumber.Verify",
+    "BLOB_UPDATE": "updateBlob, flashNumber.Update", "BLOB_CLEANUP": "cleanupBlob, flashNumber.Cleanup",
+    "JOB_UNTRIED": "untried, state::Status::UNTRIED", "JOB_RUNNING": "running, state::Status::RUNNING", "JOB_SUCCEEDED": "succeeded, state::Status::SUCCEEDED",
+    "JOB_FAILED": "failed, state::Status::FAILED", "VERDICT_FAILED": "jobFailed, capi::JOB_FAILED", "VERDICT_GOOD": "jobGood, capi::JOB_GOOD",
+}
+NAMES = {"NAME_BASE": ("base", "protocol::BASE"), "NAME_IMAGE": ("flashName.Image", "protocol::FLASH_IMAGE"), "NAME_HASH": ("flashName.Hash", "protocol::FLASH_HASH"),
+         "NAME_VERIFY": ("flashName.Verify", "protocol::FLASH_VERIFY"), "NAME_UPDATE": ("flashName.Update", "protocol::FLASH_UPDATE"),
+         "NAME_CLEANUP": ("flashName.Cleanup", "protocol::FLASH_CLEANUP")}
+OTHERS = {"OEM_NUMBER", "OEM_BYTES", "VERSION", "VERSION_MAJOR", "VERSION_MINOR", "VERSION_PATCH", *NAMES}
+NOT_NEEDED = {"sixteenBits": "a bound that soundness tests", "wordLimit": "a bound that soundness tests", "cleanUnit": "read by the library alone",
+              "statusUnit": "inside KRAMSNEP_JOB_STATUS, which is tried"}
+FIELD_NAMES = {"blob": "name", "start": "data", "len": "commit length"}
+FIELD = re.compile(r"little (?P<width>\d) (?P<number>fieldsAt|\(fieldsAt \+ \d+\)) m|getD m (?P<byte>\(fieldsAt \+ \d+\)) 0|withName (?P<name>fieldsAt|\(fieldsAt \+ \d+\)) m"
+                   r"|(?<=m\) )(?P<rest>\(fieldsAt \+ \d+\))(?=\))")
+
+
+# ---- the definitions
+def text_of(path):
+    return (ROOT / "crates" / path).read_text(encoding="utf-8")
+
+
+def value(expression, known):
+    """A sum, a difference or a product of known names and numbers."""
+    named = re.sub(r"(?!len\()\b[A-Za-z]\w*(?:::\w+|\.\w+)*", lambda name: repr(known[name.group()]), expression)
+    return eval(named, {"__builtins__": {}, "len": len})
+
+
+def bytes_or_number(said, known):
+    """The value of a definition: bytes for a list of them, else a number."""
+    return bytes(int(byte, 16) for byte in re.findall(r"0x\w\w", said)) if said.endswith("[]") else value(said, known)
+
+
+def spec_values():
+    """name -> value of each definition of a number or of a list of bytes; `name.Case` where it is given case by case."""
+    known = {}
+    for path in SPECS:
+        text = text_of(path + ".antt")
+        for name, said in re.findall(r"(?m)^(?:abbrev|unfoldable) pub \w+ : (?:ℕ|List ℕ)\n(\w+) = ((?:0x\w\w ∷ )+\[\]|\w+(?: [+*] \w+)*)$", text):
+            if name in known:
+                sys.exit(f"{path}: {name} is defined twice")
+            known[name] = bytes_or_number(said, known)
+        for name, case, said in re.findall(r"(?m)^(phaseNumber|flashNumber|flashWord) ([A-Z]\w+) = (.+)$", text):
+            known[f"{name}.{case}"] = bytes_or_number(said, known)
+    for case in ("Image", "Hash", "Verify", "Update", "Cleanup"):
+        known[f"flashName.{case}"] = known["flashFolder"] + known[f"flashWord.{case}"]
+    return {**known, **place_values()}
+
+
+def place_values():
+    """name -> place: of the subcommand in a message, of a row's words, and, as `word.name`, of the masks in the control block."""
+    found = re.findall(r"(?m)^(subcommand) m = getD m (\d+) 0$", text_of("protocol/specs/Decode.antt"))
+    found += re.findall(r"(?m)^(\w+) r = getD \(r \.words\) (\d+) 0$", text_of("state/specs/Words.antt"))
+    found += [(f"word.{name}", at) for name, at in re.findall(r"(?m)^  (\w+) = getD w (\d+) 0;$", text_of("capi_control/specs/Words.antt"))]
+    return {name: int(at) for name, at in found}
+
+
+def code_values():
+    """crate::NAME or crate::Type::NAME -> value of each constant of the code that is a number or a text."""
+    known = {}
+    for crate in CODE:
+        scope = ""
+        for line in text_of(f"{crate}/src/lib.rt").split("\n"):
+            opened, constant = re.match(r"impl (\w+) \{", line), re.match(r" *(?:pub )?const (\w+): [^=]+ = (.+);$", line)
+            scope = f"{opened.group(1)}::" if opened else "" if line == "}" else scope
+            said = constant and re.fullmatch(r"(?:\w+\()?(0x[0-9a-fA-F]+|\d+)\)?|\*b\"(.*)\"", constant.group(2))
+            if said:
+                known[f"{crate}::{scope}{constant.group(1)}"] = int(said.group(1), 0) if said.group(1) else said.group(2).encode("ascii")
+    return known
+
+
+def declared_fields(name):
+    """The fields of a request's case as the code declares them, under the header's words for them; `rest` is a length, and stands nowhere in a message."""
+    cases = re.search(r"(?ms)^pub enum Request \{\n(.*?)^\}", text_of("protocol/src/lib.rt")).group(1)
+    fields = re.search(rf"(?m)^    {name}(?:,| \{{\n((?:        .*\n)*))", cases).group(1) or ""
+    return [FIELD_NAMES.get(field, field) for field in re.findall(r"(\w+): ", fields) if field != "rest"]
+
+
+def places_in(said, known):
+    """(offset, width or None) of each field that a line of the definition `asked` reads, in the order of the message."""
+    return sorted((value(place["number"] or place["byte"] or place["name"] or place["rest"], known), int(place["width"] or 0) or (1 if place["byte"] else None))
+                  for place in FIELD.finditer(said))
+
+
+def requests():
+    """subcommand's name -> (number, length of its message, [(field, width or None, offset)]), by Decode.antt and the declaration of `Request`."""
+    text, known, found = text_of("protocol/specs/Decode.antt"), spec_values(), {}
+    session = re.search(r"(?m)^sessionIn m = (.+)$", text).group(1)
+    lengths = dict(re.findall(r"cond \(eqb sub (\w+)\) \((eqb n \d+|leb \d+ n)\)", text))
+    for command, said in re.findall(r"(?m)cond \(eqb sub (\w+)\) (.+)$", text[text.index("\nasked sub m"):]):
+        name = command[0].upper() + command[1:].removesuffix("Command")
+        fields, places = declared_fields(name), places_in(said.replace("sessionIn m", session), known)
+        if len(fields) != len(places):
+            sys.exit(f"{name}: the fields {fields} are declared, and Decode.asked reads {places}")
+        least = int(re.search(r"\d+", lengths[command]).group()) + known["headerSize"]
+        length = f"{least} or more" if lengths[command].startswith("leb") else str(least)
+        found[name] = known[command], length, [(field, width, at) for field, (at, width) in zip(fields, places)]
+    return found
+
+
+def responses():
+    """subcommand's name -> [(field, width or None, offset)] of its response, by the definitions of the replies (rule 3.5)."""
+    at = spec_values()["fieldsAt"]
+    frame = re.search(r"(?m)^statFields state size = bytesOf (\d) state \+\+ \(bytesOf (\d) size \+\+ \(0 ∷ \[\]\)\)$", text_of("protocol/specs/Frame.antt"))
+    state, size = (int(width) for width in frame.groups())
+    counted = int(re.search(r"(?m)^counted s = reply \(bytesOf (\d) ", text_of("rules/specs/Listing.antt")).group(1))
+    opened = int(re.search(r"(?m)^opened .* = \(reply \(bytesOf (\d) \(freshId s\)\)", text_of("rules/specs/Opening.antt")).group(1))
+    stat = [("state", state, at), ("size", size, at + state), ("metadata length", 1, at + state + size)]
+    return {"Count": [("count", counted, at)], "Enumerate": [("name", None, at)], "Open": [("session", opened, at)], "Read": [("data", None, at)],
+            "Stat": stat, "SessionStat": stat}
+
+
+def definitions():
+    known = {**spec_values(), **code_values()}
+    for name, (_, _, fields) in requests().items():
+        known.update({f"{name}.{'commitLength' if field == 'commit length' else field}": at for field, _, at in fields})
+    (_, known["stateWidth"], _), (_, known["sizeWidth"], _), _ = responses()["Stat"]
+    return known
+
+
+# ---- the header, compiled
+def compiler():
+    return os.environ.get("CC", "cc").split()
+
+
+def run_c(body):
+    """What a C program prints whose main has this body."""
+    with tempfile.TemporaryDirectory() as folder:
+        source, program = pathlib.Path(folder, "main.c"), pathlib.Path(folder, "main")
+        source.write_text(f'#include <stdio.h>\n#include "kramsnep.h"\nint main(void)\n{{\n{body}\n    return 0;\n}}\n', encoding="ascii")
+        subprocess.run([*compiler(), "-std=c99", *STRICT, f"-I{HEADER.parent}", str(source), "-o", str(program)], check=True)
+        return subprocess.run([str(program)], capture_output=True, text=True, check=True).stdout
+
+
+def macros():
+    """name without its prefix -> text, of each macro of the header that has no argument."""
+    listed = subprocess.run([*compiler(), "-std=c99", "-dM", "-E", str(HEADER)], capture_output=True, text=True, check=True).stdout
+    return {name: said for name, said in re.findall(rf"(?m)^#define {PREFIX}(\w+) (.+)$", listed)}
+
+
+def printed(names):
+    """name -> value, as a compiled program prints it."""
+    body = "\n".join(f'    printf("%ld\\n", (long)({PREFIX}{name}));' for name in names)
+    return dict(zip(names, map(int, run_c(body).split())))
+
+
+# ---- the checks: each gives its faults
+def alone():
+    faults = []
+    for language, words, standard in (("C", compiler(), "c99"), ("C++", os.environ.get("CXX", "c++").split(), "c++11")):
+        if not shutil.which(words[0]):
+            print(f"header, alone: {language} was not tried, {words[0]} is not installed")
+            continue
+        done = subprocess.run([*words, "-x", "c" if language == "C" else "c++", f"-std={standard}", *STRICT, "-fsyntax-only", "-"], input=f'#include "{HEADER}"\n',
+                              capture_output=True, text=True, check=False)
+        faults += [f"as {standard}:\n{done.stderr}"] if done.returncode else []
+    return faults
+
+
+def numbers():
+    known, there = definitions(), macros()
+    faults = [f"{PREFIX}{name} is not in the header" for name in sorted({*NUMBERS, *OTHERS} - set(there))]
+    faults += [f"{PREFIX}{name} has no definition in this test" for name in sorted(set(there) - {*NUMBERS, *OTHERS})]
+    for name, found in printed([name for name in NUMBERS if name in there]).items():
+        for expression in NUMBERS[name].split(", "):
+            wanted = value(expression, known)
+            if found != wanted:
+                faults.append(f"{PREFIX}{name} is {found}, and {expression} is {wanted}")
+    return faults
+
+
+def nothing_missing():
+    """Every number of Numbers.antt is a number of the header, or is not needed."""
+    defined = set(re.findall(r"(?m)^(?:abbrev|unfoldable) pub (\w+) :", text_of("protocol/specs/Numbers.antt")))
+    used = {word for said in NUMBERS.values() for word in re.findall(r"\w+", said)} & defined
+    faults = [f"Numbers.{name} is not in the header" for name in sorted(defined - used - set(NOT_NEEDED))]
+    return faults + [f"NOT_NEEDED names {name}, which is in the header or is no definition" for name in sorted(set(NOT_NEEDED) & used | set(NOT_NEEDED) - defined)]
+
+
+def oem_and_names():
+    known, there = definitions(), macros()
+    pairs = [(name, one, known[one].decode("ascii")) for name, ones in NAMES.items() for one in ones]
+    faults = [f"{PREFIX}{name} is {there.get(name)}, and {one} is {wanted}" for name, one, wanted in pairs if there.get(name) != f'"{wanted}"']
+    body = f"    const uint8_t oem[] = {{{PREFIX}OEM_BYTES}};\n    for (size_t i = 0; i < sizeof oem; i++)\n        printf(\"%02x\", oem[i]);"
+    if bytes.fromhex(run_c(body)) != known["oem"]:
+        faults.append(f"{PREFIX}OEM_BYTES are not Numbers.oem")
+    if printed(["OEM_NUMBER"])["OEM_NUMBER"].to_bytes(len(known["oem"]), "little") != known["oem"]:
+        faults.append(f"{PREFIX}OEM_NUMBER is not the number of Numbers.oem")
+    return faults
+
+
+def rows_of_table():
+    """The cells of the table in the header's comment, row by row; fields that go over into a further line are joined."""
+    lines = HEADER.read_text(encoding="ascii").split("\n")
+    first = next(i for i, line in enumerate(lines) if line.startswith(" *   subcommand"))
+    starts = [lines[first].index(head) for head in ("subcommand", "request", "fields of the request", "fields of the response")]
+    rows = []
+    for line in lines[first + 1:lines.index(" *", first)]:
+        cells = [line[start:end].strip() for start, end in zip(starts, starts[1:] + [None])]
+        if cells[0]:
+            rows.append([*cells[0].split(), *cells[1:]])
+        else:
+            rows[-1] = [f"{old} {new}".strip() for old, new in zip(rows[-1], ["", *cells])]
+    return rows
+
+
+def table():
+    """Each row of that table is the one that the definitions give."""
+    def listed(fields):
+        return ", ".join(f"{name} ({width}) at {at}" if width else f"{name} at {at}" for name, width, at in fields) or "none"
+
+    asked, answered, found = requests(), responses(), rows_of_table()
+    wanted = [[str(number), name, length, listed(fields), listed(answered.get(name, []))] for name, (number, length, fields) in asked.items()]
+    faults = [f"the row {one} is {other} by the definitions" for one, other in zip(found, wanted) if one != other]
+    return faults + ([] if len(found) == len(wanted) else [f"{len(found)} rows of subcommands, not {len(wanted)}"])
+
+
+def crc():
+    """The worked values of Worked.antt, which the comment says too, and random bytes against Python's own CRC."""
+    worked = re.findall(r"crc (\[\]|\([^)]*\)) ≡ (0x\w+)", text_of("crc/specs/Worked.antt"))
+    wanted = [(bytes(int(byte, 16) for byte in re.findall(r"0x(\w\w)", said)), int(result, 16)) for said, result in worked]
+    chance = random.Random(20261116)
+    wanted += [(data, binascii.crc_hqx(data, spec_values()["start"])) for data in (chance.randbytes(chance.randrange(1, 65)) for _ in range(200))]
+    body = "\n".join(f"    {{ const uint8_t b[] = {{{', '.join(map(str, data)) or '0'}}}; printf(\"%u\\n\", kramsnep_crc(b, {len(data)})); }}" for data, _ in wanted)
+    faults = [f"the CRC of {data.hex()} is {found}, not {right}" for (data, right), found in zip(wanted, map(int, run_c(body).split())) if found != right]
+    said = f"123456789 give 0x{wanted[0][1]:04X}, no bytes 0x{wanted[1][1]:04X}"
+    return faults + ([] if said in HEADER.read_text(encoding="ascii") else [f"the header's comment does not say: {said}"])
+
+
+def jobs():
+    """The running job of tables with one row: in use or not, each blob, each status."""
+    known, wanted, body = definitions(), [], ["    uint32_t control[KRAMSNEP_CONTROL_WORDS] = {0}, table[KRAMSNEP_TABLE_WORDS] = {0};"]
+    for row in (0, 7, known["rowCount"] - 1):
+        at = row * known["rowWords"]
+        for blob in (0, known["imageBlob"], known["verifyBlob"], known["updateBlob"], known["cleanupBlob"], known["cleanupBlob"] + 1):
+            for status in range(4):
+                for mask in (0, 1 << row, 0xFFFF & ~(1 << row)):
+                    runs = mask == 1 << row and status == known["running"] and blob in (known["verifyBlob"], known["updateBlob"])
+                    wanted.append(blob if runs else -1)
+                    word = known["writeOnly"] + status * known["statusUnit"]
+                    body.append(f"    control[{known['word.rows']}] = {mask}u; table[{at + known['blobOf']}] = {blob}; table[{at + known['wordOf']}] = {word}u;")
+                    body.append('    printf("%d\\n", kramsnep_running_job(control, table));')
+        body.append(f"    table[{at + known['wordOf']}] = 0;")
+    found = list(map(int, run_c("\n".join(body)).split()))
+    return [f"kramsnep_running_job, try {i}: {one}, not {other}" for i, (one, other) in enumerate(zip(found, wanted)) if one != other]
+
+
+def parts():
+    """The status in a row's word, on both sides of each multiple of its unit, and the two parts of a result."""
+    known = definitions()
+    words = [k * known["statusUnit"] + d for k in range(1, 9) for d in (-1, 0)]
+    results = [code + known["codeUnit"] * length for code in (known["success"], known["notSound"]) for length in (0, 1, known["answerSize"])]
+    wanted = [word // known["statusUnit"] % 4 for word in words] + [part for result in results for part in (result % known["codeUnit"], result // known["codeUnit"])]
+    body = [f'    printf("%u\\n", (unsigned)KRAMSNEP_JOB_STATUS({word}u));' for word in words]
+    body += [f'    printf("%u %u\\n", (unsigned)KRAMSNEP_CODE({result}u), (unsigned)KRAMSNEP_LENGTH({result}u));' for result in results]
+    found = list(map(int, run_c("\n".join(body)).split()))
+    return [] if found == wanted else [f"KRAMSNEP_JOB_STATUS, KRAMSNEP_CODE and KRAMSNEP_LENGTH give {found}, not {wanted}"]
+
+
+def version():
+    entry = re.search(r"(?m)^## (\S+)", (ROOT / "docs" / "CHANGELOG.md").read_text(encoding="utf-8")).group(1)
+    parts = printed(["VERSION_MAJOR", "VERSION_MINOR", "VERSION_PATCH"]).values()
+    said = {macros()["VERSION"].strip('"'), ".".join(map(str, parts))}
+    return [] if said == {entry} else [f"the header's versions are {sorted(said)}, and docs/CHANGELOG.md begins with {entry}"]
+
+
+def main():
+    if sys.argv[1:] != ["--check"]:
+        sys.exit(__doc__)
+    failed = False
+    for test in (alone, numbers, nothing_missing, oem_and_names, table, crc, jobs, parts, version):
+        faults = test()
+        failed |= bool(faults)
+        print("\n".join(f"header, {test.__name__}: {fault}" for fault in faults) or f"header, {test.__name__}: as defined")
+    sys.exit(failed)
+
+
+if __name__ == "__main__":
+    main()
