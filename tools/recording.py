@@ -1,172 +1,196 @@
 #!/usr/bin/env python3
 """Recordings of requests, for people: written as readable lines, read back as a transcript in words.
 
-recording.py make STORY.txt STORY.requests     the request file that `blobrun` reads, from readable lines
-recording.py show STORY.requests STORY.lines   what was asked and what was answered, in words
+A line of a recording is a clock and a request; '#' starts a comment:
 
-A line of a story is a clock and a request; '#' starts a comment:
-
-    100 open /scan/moreau 0003      flags in hex
-    101 write 0 0 48656c6c6f        session, offset, bytes in hex (or 'text' in quotes)
+    100 open /scan/moreau 0003      name, flags in hex
+    101 write 0 0 'Hello' 0d0a      session, offset, data: text in quotes, or hex; at most 52 bytes
     102 read 0 0 58                 session, offset, count
     103 commit 0                    session
     104 stat /scan/moreau           also: delete NAME
     105 sessionstat 0               also: close SESSION, writemeta SESSION
     106 count                       also: enumerate INDEX
-    107 raw CFC2000B                any bytes
-"""
-import binascii
-import shlex
+    107 raw CFC2000B                any bytes, right or wrong: nothing at all, or up to 255
+
+Quotes are ' or "; inside them \\\\ \\' \\" \\n \\r \\t \\xHH are escapes, and text is kept as UTF-8.
+
+A file called - is standard input, or standard output where it is written. What is wrong is told in one line, FILE:LINE: what;
+then the exit status is 1, and no file is written or changed."""
+import argparse
+import re
+import signal
 import sys
 
-OEM = b"\xcf\xc2\x00"
-CODES = {0x00: "accepted", 0xFF: "refused: state not sound", 0xC7: "refused: wrong length", 0xCC: "refused: wrong OEM number, CRC, form of name, flags or length byte",
-         0xC1: "refused: no such subcommand", 0xCB: "refused: no such blob or session", 0xC9: "refused: index or offset out of range", 0xC8: "refused: too long",
-         0xC4: "refused: no free row or slot", 0xC0: "refused: busy", 0xD5: "refused: not supported"}
+from blob_recording import files, ipmitool, story, transcript, transfer
+from blob_recording.files import Fault
+from blob_recording.messages import SCAN_SIZE, message, records  # noqa: F401 (for the tests and benchmarks, which import this file)
+from blob_recording.story import make  # noqa: F401
 
 
-def little(value, width):
-    return value.to_bytes(width, "little")
+class Parser(argparse.ArgumentParser):
+    """Tells wrong arguments in one line, as all else that is wrong."""
+
+    def __init__(self, **options):
+        super().__init__(formatter_class=argparse.RawDescriptionHelpFormatter, allow_abbrev=False, **options)
+
+    def error(self, message):  # argparse's own name for it
+        raise Fault(f"{self.prog}: {message} (--help says more)")
 
 
-def number(data):
-    return int.from_bytes(data, "little")
+def up_to(most):
+    """A reader of numbers from 0 to that one, decimal or 0x and hex."""
+    def number(word):
+        form = re.fullmatch("0x([0-9A-Fa-f]{1,8})|([0-9]{1,10})", word)
+        value = int(form.group(1), 16) if form and form.group(1) else int(form.group(2)) if form else most + 1
+        if value > most:
+            raise argparse.ArgumentTypeError(f"a number from 0 to {most} is wanted, not {word}")
+        return value
+    return number
 
 
-def text_of(data):
-    return data.rstrip(b"\0").decode("latin-1")
+def text(lines):
+    return "".join(f"{line}\n" for line in lines).encode("utf-8")
 
 
-def payload(word):
-    return word[1:].encode() if word.startswith("=") else bytes.fromhex(word)
+def run_make(given):
+    """STORY.txt STORY.requests: the request file that `blobrun` reads, from readable lines"""
+    files.check_paths([given.story], given.requests)
+    files.write(given.requests, story.make_lines(files.read_lines(given.story), files.called(given.story)))
 
 
-def name_field(words):
-    return words[0].encode("latin-1") + b"\0"
+def run_show(given):
+    """STORY.requests LINES: what was asked and what was answered, in words; LINES is what `blobrun` printed"""
+    files.check_paths([given.requests, given.lines])
+    files.write("-", text(transcript.show(files.read_bytes(given.requests), files.read_lines(given.lines), files.called(given.lines))))
 
 
-def session_field(words):
-    return little(int(words[0]), 2)
+def run_tell(given):
+    """STORY.txt LINES: the readable lines themselves, comments too, with what was answered behind each request
+
+LINES is what `blobrun` printed for the request file that `make` makes of them."""
+    files.check_paths([given.story, given.lines])
+    asked = files.read_lines(given.story)
+    made = story.make_lines(asked, files.called(given.story))
+    files.write("-", text(transcript.tell(asked, made, files.read_lines(given.lines), files.called(given.lines))))
 
 
-def session_and_offset(words):
-    return session_field(words) + little(int(words[1]), 4)
+def give_story(lines, output):
+    """Prints readable lines, or makes them into a request file where there is an output."""
+    if output is None:
+        files.write("-", text(lines))
+    else:
+        files.write(output, story.make_lines(lines, "the recording"))
 
 
-def shown_session(fields):
-    return [number(fields[:2])]
+def run_upload(given):
+    """NAME FILE [REQUESTS]: stores a file: Open for writing, Writes of 52 bytes, Commit, Close
+
+Without REQUESTS the readable lines are printed; with it the request file is written. A name holds at most 4,096 bytes.
+A recording says beforehand which session it means: --session is the identifier that the Open will be given, 0 on a fresh library.
+A Write does not shorten what a name holds: for a name that may hold more than the file, --replace deletes it first (where there is
+none, that Delete is refused and changes nothing)."""
+    files.check_paths([given.file], given.requests)
+    data = files.read_bytes(given.file, SCAN_SIZE + 1)
+    give_story(transfer.upload(given.name, data, files.called(given.file), given.session, given.clock, given.replace), given.requests)
 
 
-NAMED = name_field, lambda f: [text_of(f)]
-OF_SESSION = session_field, shown_session
-# Each request, in the order of the subcommands: its fields from the words of a line, and the words that show its fields.
-REQUESTS = {
-    "count": (lambda w: b"", lambda f: []),
-    "enumerate": (lambda w: little(int(w[0]), 4), lambda f: [number(f)]),
-    "open": (lambda w: little(int(w[1], 16), 2) + name_field(w), lambda f: [text_of(f[2:]), f"{number(f[:2]):04x}"]),
-    "read": (lambda w: session_and_offset(w) + little(int(w[2]), 4), lambda f: [number(f[:2]), number(f[2:6]), number(f[6:10])]),
-    "write": (lambda w: session_and_offset(w) + b"".join(map(payload, w[2:])), lambda f: [number(f[:2]), number(f[2:6]), f[6:].hex()]),
-    "commit": (lambda w: session_field(w) + b"\0", shown_session),
-    "close": OF_SESSION,
-    "delete": NAMED,
-    "stat": NAMED,
-    "sessionstat": OF_SESSION,
-    "writemeta": (lambda w: session_field(w) + little(0, 4), shown_session),
-}
-NAMES = list(REQUESTS)
-# The words that show a response's fields; the others are state and size.
-RESPONSES = {
-    "count": number,
-    "enumerate": text_of,
-    "open": lambda f: f"session {number(f)}",
-    "read": lambda f: f"{len(f)} bytes {f.hex()}",
-}
+def run_download(given):
+    """NAME [REQUESTS]: reads a name back: Open for reading, Reads of 58 bytes, Close
+
+Without REQUESTS the readable lines are printed; with it the request file is written.
+Behind the end of what is stored a Read brings nothing, so the default length brings all of it. `received` puts the bytes together."""
+    give_story(transfer.download(given.name, given.length, given.session, given.clock), given.requests)
 
 
-def message(name, fields=b""):
-    crc = little(binascii.crc_hqx(fields, 0xFFFF), 2) if fields else b""
-    return OEM + bytes([NAMES.index(name)]) + crc + fields
+def run_received(given):
+    """STORY.requests LINES FILE: the bytes that the Reads of a name brought, into a file
+
+Nothing is written if an Open or a Read of the name was refused, if bytes are missing in between, or if two Reads differ.
+A line on standard error says how many bytes came, and whether the Reads met their end."""
+    files.check_paths([given.requests, given.lines], given.file)
+    name, data, whole = transfer.received(files.read_bytes(given.requests), files.read_lines(given.lines), files.called(given.lines), given.name)
+    files.write(given.file, data)
+    print(f"{name}: {len(data)} bytes, {'all it has' if whole else 'and there may be more: no Read met the end'}", file=sys.stderr)
 
 
-def request(words):
-    """The message of one line's words, after the clock."""
-    name, rest = words[0], words[1:]
-    if name == "raw":
-        return bytes.fromhex("".join(rest))
-    fields, _ = REQUESTS.get(name, OF_SESSION)  # `message` refuses a name that is not listed
-    return message(name, fields(rest))
+def run_to_ipmitool(given):
+    """REQUESTS [WORDS]: for each request a line of words for `ipmitool raw`
+
+For example:  recording.py to-ipmitool x.requests | while read -r words; do ipmitool .. raw $words </dev/null 2>&1; done >printed
+The clocks are left out: the controller has its own."""
+    files.check_paths([given.requests], given.words)
+    lines = ipmitool.word_lines(files.read_bytes(given.requests), files.called(given.requests), given.netfn, given.cmd)
+    files.write(given.words, text(lines))
 
 
-def make(text):
-    out = bytearray()
-    for at, line in enumerate(text.splitlines(), 1):
-        # a quoted text becomes one word that starts with '='
-        words = shlex.split(line.replace("'", "\"").replace(" \"", " \"="), comments=True)
-        if not words:
-            continue
-        try:
-            m = request(words[1:])
-            out += little(int(words[0]), 4) + bytes([len(m)]) + m
-        except (ValueError, IndexError, OverflowError) as fault:
-            sys.exit(f"line {at}: {line.strip()}: {fault}")
-    return bytes(out)
+def run_from_ipmitool(given):
+    """WORDS REQUESTS: the request file from lines that `ipmitool raw` takes
+
+What stands in a line up to the word `raw` is left out, so lines of a script can be given as they are."""
+    files.check_paths([given.words], given.requests)
+    files.write(given.requests, ipmitool.requests(files.read_lines(given.words), files.called(given.words), given.netfn, given.cmd, given.clock))
 
 
-def records(data):
-    """(clock, message) of each record, and (None, rest) where the last one is cut."""
-    at = 0
-    while at < len(data):
-        head = data[at:at + 5]
-        body = data[at + 5:at + 5 + head[4]] if len(head) == 5 else b""
-        if len(head) < 5 or len(body) < head[4]:
-            yield None, data[at:]
-            return
-        yield number(head[:4]), body
-        at += 5 + len(body)
+def run_ipmitool_answers(given):
+    """PRINTED [LINES]: what `ipmitool raw` printed, as the lines that `blobrun` prints: for show and received
+
+PRINTED has what came on standard output and standard error, request by request. Where a response fills its last line of 16 bytes, its CRC
+tells whether it ends there; an empty line ends it too."""
+    files.check_paths([given.printed], given.lines)
+    files.write(given.lines, text(ipmitool.answer_lines(files.read_lines(given.printed), files.called(given.printed))))
 
 
-def asked(m):
-    if len(m) < 4 or m[:3] != OEM or m[3] >= len(NAMES):
-        return "raw " + m.hex().upper()
-    name = NAMES[m[3]]
-    _, shown = REQUESTS[name]
-    return " ".join([name, *map(str, shown(m[6:]))])
+# What the words of the subcommands stand for.
+MEANINGS = {
+    "STORY": "a file of readable lines", "REQUESTS": "a request file, as `blobrun` reads it", "LINES": "a file of lines, as `blobrun` prints them", "NAME": "a name of the store: /scan/..",
+    "FILE": "the file itself", "WORDS": "a file of lines that `ipmitool raw` takes", "PRINTED": "a file of what `ipmitool raw` printed"}
 
 
-def state_and_size(fields):
-    return f"state {number(fields[:2]):04x}, size {number(fields[2:6])}"
-
-
-def answered(m, line):
-    code, _, response = line.partition(" ")
-    words = CODES.get(int(code, 16), "an unknown code")
-    r = bytes.fromhex(response)
-    f = r[6:]
-    if not f or len(m) < 4:
-        return words
-    shown = RESPONSES.get(NAMES[r[3]], state_and_size)
-    return f"{words}: {shown(f)}"
-
-
-def show(data, lines):
-    lines = iter(lines.splitlines())
-    for clock, m in records(data):
-        line = next(lines, "")
-        if clock is None:
-            yield f"         a cut record of {len(m)} bytes -> {line}"
+def add(commands, run, *words, **options):
+    """A subcommand: its help is the first line of `run`'s, behind the words, and its description all of it."""
+    name = run.__name__.removeprefix("run_").replace("_", "-")
+    summary = run.__doc__.partition("\n")[0].partition(": ")[2]
+    parser = commands.add_parser(name, help=summary, description=summary + "\n" + run.__doc__.partition("\n")[2])
+    parser.set_defaults(run=run)
+    for word in words:
+        optional = word.startswith("[")
+        word = word.strip("[]")
+        parser.add_argument(word.lower(), metavar=word, help=MEANINGS[word], **({"nargs": "?"} if optional else {}))
+    for option, (kind, default, summary) in options.items():
+        if kind is bool:
+            parser.add_argument(f"--{option}", action="store_true", help=summary)
         else:
-            yield f"{clock:10} {asked(m)} -> {answered(m, line)}"
+            parser.add_argument(f"--{option}", type=kind, default=default, metavar=option.upper(), help=summary if default is None else f"{summary} (default %(default)s)")
+    return parser
+
+
+def parser():
+    """The command line."""
+    top = Parser(prog="recording.py", description=__doc__)
+    commands = top.add_subparsers(dest="command", required=True, metavar="COMMAND", title="commands (COMMAND --help says more)")
+    clock = up_to(0xFFFFFFFF), 0, "the clock of each request"
+    session = up_to(0xFFFF), 0, "the session's identifier"
+    numbers = {"netfn": (up_to(0xFF), f"0x{ipmitool.NETWORK_FUNCTION:02x}", "the network function"), "cmd": (up_to(0xFF), f"0x{ipmitool.COMMAND:02x}", "the command")}
+    add(commands, run_make, "STORY", "REQUESTS")
+    add(commands, run_show, "REQUESTS", "LINES")
+    add(commands, run_tell, "STORY", "LINES")
+    add(commands, run_upload, "NAME", "FILE", "[REQUESTS]", session=session, clock=clock, replace=(bool, False, "delete the name first"))
+    add(commands, run_download, "NAME", "[REQUESTS]", session=session, clock=clock, length=(up_to(SCAN_SIZE), SCAN_SIZE, "how many bytes are asked for"))
+    add(commands, run_received, "REQUESTS", "LINES", "FILE", name=(transfer.checked_name, None, "the name, where Reads of several were recorded"))
+    add(commands, run_to_ipmitool, "REQUESTS", "[WORDS]", **numbers).set_defaults(words="-")
+    add(commands, run_from_ipmitool, "WORDS", "REQUESTS", clock=clock, **numbers)
+    add(commands, run_ipmitool_answers, "PRINTED", "[LINES]").set_defaults(lines="-")
+    return top
 
 
 def main():
-    if len(sys.argv) != 4 or sys.argv[1] not in ("make", "show"):
-        sys.exit(__doc__)
-    if sys.argv[1] == "make":
-        with open(sys.argv[2], encoding="utf-8") as source, open(sys.argv[3], "wb") as target:
-            target.write(make(source.read()))
-    else:
-        with open(sys.argv[2], "rb") as source, open(sys.argv[3], encoding="ascii") as lines:
-            print("\n".join(show(source.read(), lines.read())))
+    if hasattr(signal, "SIGPIPE"):
+        signal.signal(signal.SIGPIPE, signal.SIG_DFL)  # `| head` ends it quietly, as other programs
+    try:
+        given = parser().parse_args()
+        given.run(given)
+    except Fault as fault:
+        sys.exit(str(fault))
 
 
 if __name__ == "__main__":
