@@ -18,7 +18,7 @@ STORIES = sorted((ROOT / "examples").glob("*.txt"))
 
 
 def run(*words, data=None, program=PROGRAM):
-    done = subprocess.run([str(program), *map(str, words)], input=data, capture_output=True, check=False)
+    done = subprocess.run([str(program), *map(str, words)], input=data, capture_output=True, check=True)
     return done.stdout.decode("ascii"), done.stderr.decode()
 
 
@@ -85,13 +85,30 @@ def memory():
 
 
 def words():
+    """Help; and what fails is one line on standard error, which begins with the program's name. The status is always 0."""
     out, err = run("--help")
-    if not out.startswith("usage: blobrun") or err:
-        sys.exit(f"--help: {out!r} {err!r}")
-    for path in (ROOT / "no such file", ROOT):
-        out, err = run(path)
-        if out or err.count("\n") != 1:
-            sys.exit(f"{path.name}: {out!r} {err!r}")
+    expect("--help", (out.startswith("usage: blobrun [FILE]\n"), "exit status is always 0" in out, err), (True, True, ""))
+    expect("-h", run("-h"), (out, ""))
+    full = subprocess.run([str(PROGRAM), str(STORIES[0].with_suffix(".requests"))], stdout=open("/dev/full", "wb"), stderr=subprocess.PIPE, check=True).stderr.decode()
+    cut = subprocess.run([str(PROGRAM)], input=b"\0", stdout=open("/dev/full", "wb"), stderr=subprocess.PIPE, check=True).stderr.decode()
+    expect("a full disk", {full, cut}, {"blobrun: standard output: No space left on device\n"})
+    for found, why in ((run(ROOT / "no such file"), f"{ROOT / 'no such file'}: No such file or directory"), (run(ROOT), f"{ROOT}: Is a directory"),
+                       (run("--version"), "--version: No such file or directory"), (run("x" * 5000), "the argument: File name too long"), (run("a", "b"), "at most one argument is taken (--help says more)")):
+        expect(why, found, ("", f"blobrun: {why}\n"))
+
+
+def tested():
+    """The test that --help and README give in the place of an exit status: it holds where all went well, and nowhere else."""
+    [command] = [line.strip() for line in run("--help")[0].splitlines() if "errors=" in line]
+    expect("README gives it too", command in (ROOT / "README.md").read_text(encoding="utf-8"), True)
+    good = STORIES[0].with_suffix(".requests")
+    with tempfile.TemporaryDirectory() as name:
+        folder = pathlib.Path(name)
+        (folder / "cut").write_bytes(good.read_bytes()[:-1])
+        (folder / "empty").write_bytes(b"")
+        for file, holds in ((good, True), (folder / "empty", True), (folder / "cut", False), (folder / "absent", False)):
+            script = command.replace("blobrun FILE", f"{PROGRAM} {file}")
+            expect(f"the test on {file.name}", subprocess.run(["sh", "-c", script], cwd=folder, check=False).returncode == 0, holds)
 
 
 def main():
@@ -101,7 +118,7 @@ def main():
             requests.write_bytes(recording.make(story.read_text(encoding="utf-8")))
             story.with_suffix(".lines").write_text(run(requests, program=sys.argv[2])[0], encoding="ascii")
         return
-    for test in (examples, paper, cut, identifiers, memory, words):
+    for test in (examples, paper, cut, identifiers, memory, words, tested):
         test()
         print(f"blobrun, {test.__name__}: as expected")
 
