@@ -5,7 +5,8 @@ here=$(cd "$(dirname "$0")" && pwd)
 copy=$(mktemp -d)
 trap 'rm -rf "$copy"' EXIT
 cp -r "$here/../../crates" "$here/../../crates.txt" "$copy"
-[ -d "$here/../../target" ] && cp -r "$here/../../target" "$copy"
+# what is proved already need not be proved again
+if [ -d "$here/../../target" ]; then cp -r "$here/../../target" "$copy"; fi
 mkdir -p "$copy/crates/soundapi/src"
 cp "$here/soundapi.txt" "$copy/crates/soundapi/src/lib.rt"
 echo "soundapi: state sound" >>"$copy/crates.txt"
