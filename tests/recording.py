@@ -288,6 +288,17 @@ def telling(path, shown):
 
 
 # A recording and what show says of it.
+def readme():
+    """What README.md shows is what is printed."""
+    lines = (ROOT / "README.md").read_text(encoding="utf-8").splitlines()
+    told = good("tell", ROOT / "examples" / "two-moreaus.txt", ROOT / "examples" / "two-moreaus.lines").decode().splitlines()
+    shown = [line.strip() for line in lines if " -> " in line and line.startswith("    ")]
+    expect("lines of the story", (len(shown) > 3, [line for line in shown if line not in told]), (True, []))
+    start, made, run = (lines.index(f"    $ {command}") for command in ("cat story.txt", "python3 tools/recording.py make story.txt story.requests", "target/bin/blobrun story.requests"))
+    printed = blobrun(recording.make("\n".join(lines[start + 1:made]))).decode()
+    expect("lines of blobrun", [line.strip() for line in lines[run + 1:lines.index("", run)]], printed.splitlines())
+
+
 SHOWN = """\
  7 open /scan/a 0003 -> accepted: session 0
  7 write 0 0 'it\\'s "7"' -> accepted
@@ -490,7 +501,7 @@ def wrong_for_ipmitool():
 def main():
     if sys.argv[1:] != ["--check"]:
         sys.exit(__doc__)
-    for test in (requests, random_messages, faults, bad_files, kept_files, arguments, examples, showing, wrong_lines, transfers, replaced, not_received, ipmitool, wrong_for_ipmitool):
+    for test in (requests, random_messages, faults, bad_files, kept_files, arguments, examples, readme, showing, wrong_lines, transfers, replaced, not_received, ipmitool, wrong_for_ipmitool):
         test()
         print(f"recording, {test.__name__}: as expected")
 

@@ -1,0 +1,17 @@
+#!/bin/sh
+# run.sh [STORY.txt]: tells a recorded story in words: each request, and what the library answered. The story of the two clients of one name, if none is given.
+# It proves and builds blobrun first, where that was not done yet; what the prover prints goes to target/blobrun.log.
+set -eu
+[ $# -le 1 ] || { echo "usage: run.sh [STORY.txt]" >&2; exit 1; }
+root=$(cd "$(dirname "$0")/.." && pwd)
+story=${1:-$root/examples/two-moreaus.txt}
+out=$(mktemp -d)
+trap 'rm -rf "$out"' EXIT
+python3 "$root/tools/recording.py" make "$story" "$out/requests"
+mkdir -p "$root/target"
+[ -x "$root/target/bin/blobrun" ] || echo "Proving and building blobrun; that takes some minutes the first time." >&2
+(cd "$root" && rt check blobrun) >"$root/target/blobrun.log" 2>&1 || { tail -n 20 "$root/target/blobrun.log" >&2; exit 1; }
+# blobrun has no exit status: it failed where it said something
+failed=$("$root/target/bin/blobrun" "$out/requests" 2>&1 >"$out/lines")
+[ -z "$failed" ] || { echo "$failed" >&2; exit 1; }
+python3 "$root/tools/recording.py" tell "$story" "$out/lines"
