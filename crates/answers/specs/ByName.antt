@@ -7,6 +7,7 @@ use Prim.Native.Nat.{ℕ, _+_}
 use lib.Dec.{eqb}
 use lib.ListN.{drop}
 use Rattle.laws.specs.All.{Or, this, that}
+use Rattle.laws.specs.Find.{isSome}
 use Rattle.laws.specs.Ranges.{part}
 use Rattle.protocol.specs.Numbers.{success, invalid, notFound, busy, noRoom, notSupported, openCommand, deleteCommand, statCommand}
 use Rattle.protocol.specs.Numbers.{readOnly, readWrite, writeOnly}
@@ -38,11 +39,6 @@ use Rattle.rules.specs.Examples.{reply-is, refused-code}
 use Rattle.answers.specs.Faults.{frameFault, decoded-by-frame}
 
 -- ---- the situations
--- there is one
-abbrev pub isSome : Option ℕ → Bool
-isSome none = false
-isSome (some k) = true
-
 -- a session is on the blob; the flash session is open; a row is free; a slot is free
 abbrev pub sessionOn : (blob : ℕ) → State → Bool
 sessionOn b s = isSome (rowFound (OnBlob b) s)

@@ -8,6 +8,7 @@ use lib.Dec.{eqb}
 use borrow.Author.Tests.{eqb-true}
 use Rattle.laws.specs.All.{or-right}
 use Rattle.protocol.specs.Numbers.{success, notSound, notSupported, running}
+use Rattle.protocol.specs.NameForms.{oneOf}
 use Rattle.protocol.specs.Decode.{decoded, numberOf}
 use Rattle.protocol.specs.Frame.{Reply, refused, done, reply, framed}
 use Rattle.state.specs.declared.row.Place.{Place}
@@ -21,7 +22,7 @@ use Rattle.rules.specs.Store.{onStore}
 use Rattle.rules.specs.Flash.{jobEnds, onFlash}
 use Rattle.rules.specs.Session.{onPart, onFound, onSession, rowFound}
 use Rattle.rules.specs.Respond.{Effect, effectOf, unsound, answered, respond, silent, jobOutcome}
-use Rattle.answers.specs.Replies.{refusals, among, hasFields, Fine, decoded-known, answered-fine}
+use Rattle.answers.specs.Replies.{refusals, hasFields, Fine, decoded-known, answered-fine}
 
 -- the eleven completion codes of a message (rules 7.1 to 7.11)
 abbrev pub documented : List ℕ
@@ -32,21 +33,21 @@ abbrev pub outcomes : List ℕ
 outcomes = success ∷ notSound ∷ notSupported ∷ []
 
 -- ---- messages
-not-unsound : (code : ℕ) → among code refusals ≡ true → eqb code notSound ≡ false
+not-unsound : (code : ℕ) → oneOf code refusals ≡ true → eqb code notSound ≡ false
 not-unsound code h = go (eqb code notSound) refl
   where
     go : (y : Bool) → eqb code notSound ≡ y → eqb code notSound ≡ false
-    go true e = absurd (true≢false (sym h ∙ ap (λ (c : ℕ). among c refusals) (eqb-true code notSound e)))
+    go true e = absurd (true≢false (sym h ∙ ap (λ (c : ℕ). oneOf c refusals) (eqb-true code notSound e)))
     go false e = e
 
-frame-code : (sub : ℕ) (y : Bool) (x : Reply) → Fine y x → (among (framed sub x .0) documented ≡ true) × (eqb (framed sub x .0) notSound ≡ false)
+frame-code : (sub : ℕ) (y : Bool) (x : Reply) → Fine y x → (oneOf (framed sub x .0) documented ≡ true) × (eqb (framed sub x .0) notSound ≡ false)
 unfolding framed
-frame-code sub y (refused c) h = (or-right (eqb c success) _ (or-right (eqb c notSound) (among c refusals) h), not-unsound c h)
+frame-code sub y (refused c) h = (or-right (eqb c success) _ (or-right (eqb c notSound) (oneOf c refusals) h), not-unsound c h)
 frame-code sub y done h = (refl, refl)
 frame-code sub y (reply f) h = (refl, refl)
 
 abbrev Coded : Bool → Effect → Type 0
-Coded sound o = (among (o .code) documented ≡ true) × (eqb (o .code) notSound ≡ not sound)
+Coded sound o = (oneOf (o .code) documented ≡ true) × (eqb (o .code) notSound ≡ not sound)
 
 coded : (t : ℕ) (m : List ℕ) (s : State) → Coded (isSound s) (respond t m s)
 unfolding respond
@@ -60,7 +61,7 @@ coded t m s = go (isSound s)
     go false = (refl, refl)
 
 -- THE CODE OF EVERY MESSAGE IS ONE OF THE ELEVEN, whatever the state (rules 7.1 to 7.11)
-pub message-code : (t : ℕ) (m : List ℕ) (s : State) → among (respond t m s .code) documented ≡ true
+pub message-code : (t : ℕ) (m : List ℕ) (s : State) → oneOf (respond t m s .code) documented ≡ true
 message-code t m s = coded t m s .0
 
 -- AND IT IS FF EXACTLY WHERE THE STATE IS NOT SOUND (rule 7.2)
@@ -91,20 +92,20 @@ session-ended good s = go (rowFound OnFlash s)
     go none = refl
     go (some r) = part-ended (placeOf (blob r s)) good (inRow r .get s) (inBody (placeOf (blob r s)) .get s)
 
-silent-code : (x : Reply) → Ended x → among (silent x .0) outcomes ≡ true
+silent-code : (x : Reply) → Ended x → oneOf (silent x .0) outcomes ≡ true
 unfolding silent
-silent-code (refused c) h = ap (λ (code : ℕ). among code outcomes) h
+silent-code (refused c) h = ap (λ (code : ℕ). oneOf code outcomes) h
 silent-code done h = refl
 silent-code (reply f) h = absurd h
 
 -- THE CODE OF EVERY JOB OUTCOME IS ONE OF THE THREE, whatever the state (rules 17.1 and 17.3)
-pub outcome-code : (good : Bool) (s : State) → among (jobOutcome good s .code) outcomes ≡ true
+pub outcome-code : (good : Bool) (s : State) → oneOf (jobOutcome good s .code) outcomes ≡ true
 unfolding jobOutcome
 outcome-code good s = go (isSound s)
   where
     full : Effect
     full = effectOf (silent (onSession OnFlash 0 (endJob good) s .0)) (onSession OnFlash 0 (endJob good) s .1)
 
-    go : (y : Bool) → among (cond y full (unsound s) .code) outcomes ≡ true
+    go : (y : Bool) → oneOf (cond y full (unsound s) .code) outcomes ≡ true
     go true = silent-code (onSession OnFlash 0 (endJob good) s .0) (session-ended good s)
     go false = refl

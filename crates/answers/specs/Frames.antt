@@ -6,6 +6,7 @@ use Prim.Native.Nat.{ℕ, _≤_}
 use native.Mathlib.Omega.{arith}
 use lib.ListN.{length}
 use Rattle.protocol.specs.Numbers.{success, readMost, writeMetaCommand}
+use Rattle.protocol.specs.NameForms.{oneOf}
 use Rattle.protocol.specs.Decode.{decoded, numberOf, subcommand}
 use Rattle.protocol.specs.Layout.{accepted-says}
 use Rattle.protocol.specs.Frame.{Reply, refused, done, reply, framed, header}
@@ -16,7 +17,7 @@ use Rattle.state.specs.Soundness.{isSound}
 use Rattle.rules.specs.Respond.{Effect, effectOf, unsound, answered, respond}
 use Rattle.rules.specs.Messages.{sent}
 use Rattle.guarantees.specs.Fits.{Short, short-answered}
-use Rattle.answers.specs.Replies.{refusals, among, hasFields, Fine, Known, decoded-known, answered-fine}
+use Rattle.answers.specs.Replies.{refusals, hasFields, Fine, Known, decoded-known, answered-fine}
 
 -- header, CRC of the fields, and the fields, at most 58 bytes of them (rules 1.6 and 3.2)
 pub record WithFields (sub : ℕ) (response : List ℕ) : Type 0 where
@@ -30,8 +31,8 @@ SuccessForm true sub response = WithFields sub response
 SuccessForm false sub response = response ≡ header sub
 
 -- a refusal is no success
-refused-not : (code : ℕ) → among code refusals ≡ true → code ≡ success → ⊥
-refused-not code h e = true≢false (sym h ∙ ap (λ (c : ℕ). among c refusals) e)
+refused-not : (code : ℕ) → oneOf code refusals ≡ true → code ≡ success → ⊥
+refused-not code h e = true≢false (sym h ∙ ap (λ (c : ℕ). oneOf c refusals) e)
 
 frame-form : (sub : ℕ) (y : Bool) (x : Reply) → Fine y x → Short x → framed sub x .0 ≡ success → SuccessForm y sub (framed sub x .1)
 unfolding framed

@@ -11,6 +11,7 @@ use Rattle.laws.specs.Ranges.{part}
 use Rattle.protocol.specs.Numbers.{wrongLength, invalid, unknownCommand, notFound, outOfRange, tooLong, noRoom, busy, notSupported}
 use Rattle.protocol.specs.Numbers.{writeCommand, commitCommand, closeCommand, deleteCommand, openCommand, statCommand, writeMetaCommand, writeOnly, running, slotSize, imageSize, hashSize}
 use Rattle.protocol.specs.Names.{kindOf, flashNumber}
+use Rattle.protocol.specs.NameForms.{oneOf}
 use Rattle.protocol.specs.Decode.{decoded, asked, numberOf, fieldsAt, subcommand}
 use Rattle.protocol.specs.Cases.{Each, each-command, named-case, decoded-case}
 use Rattle.protocol.specs.Frame.{Reply, refused, done, reply}
@@ -44,18 +45,13 @@ use Rattle.rules.specs.Laws.{cond-has, some-has, none-has, whether-has}
 abbrev pub refusals : List ℕ
 refusals = wrongLength ∷ invalid ∷ unknownCommand ∷ notFound ∷ outOfRange ∷ tooLong ∷ noRoom ∷ busy ∷ notSupported ∷ []
 
--- the code stands in the list
-abbrev pub among : (code : ℕ) → List ℕ → Bool
-among code [] = false
-among code (c ∷ cs) = eqb code c || among code cs
-
 -- a success of this subcommand has fields (rules 1.6 and 1.7): all but Write, Commit, Close and Delete
 abbrev pub hasFields : (sub : ℕ) → Bool
 hasFields sub = not (eqb sub writeCommand || (eqb sub commitCommand || (eqb sub closeCommand || eqb sub deleteCommand)))
 
 -- ---- what every command replies: a refusal with a known code, or a success that has fields where the command has
 abbrev pub Fine : (fields : Bool) → Reply → Type 0
-Fine y (refused code) = among code refusals ≡ true
+Fine y (refused code) = oneOf code refusals ≡ true
 Fine true done = ⊥
 Fine false done = Unit {0}
 Fine true (reply f) = Unit {0}
@@ -247,7 +243,7 @@ Known (Delete b) = Unit {0}
 Known (Stat b) = Unit {0}
 Known (SessionStat session) = Unit {0}
 Known (WriteMeta session) = Unit {0}
-Known (Refused code) = among (code .0) refusals ≡ true
+Known (Refused code) = oneOf (code .0) refusals ≡ true
 
 asked-known : (m : List ℕ) → Each (λ (sub : ℕ). Known (asked sub m)) (suc writeMetaCommand)
 unfolding asked

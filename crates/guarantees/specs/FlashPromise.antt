@@ -12,6 +12,7 @@ use lib.Dec.{eqb}
 use borrow.Author.Tests.{eqb-true, eq-eqb, ne-eqb}
 use lib.ListN.{length, drop}
 use Rattle.laws.specs.All.{and-true, Or, this, that}
+use Rattle.laws.specs.Find.{isSome}
 use Rattle.laws.specs.Bits.{bit, bit-zero}
 use Rattle.laws.specs.Ranges.{part}
 use Rattle.protocol.specs.Numbers.{rowWords, untried, openCommand, rowCount, slotCount, success, statusUnit, notFound, busy, running, succeeded, imageSize, hashSize, imageBlob, hashBlob, verifyBlob, updateBlob, readOnly, cleanupBlob}
@@ -63,11 +64,7 @@ abbrev pub run : State → List Event → State
 run s [] = s
 run s (e ∷ es) = run (next s e) es
 
--- whether there is a session on a flash name, and its job status (0 without one)
-abbrev isSome : Option ℕ → Bool
-isSome none = false
-isSome (some r) = true
-
+-- the job status of a session on a flash name, 0 without one
 abbrev statusAt : Option ℕ → State → ℕ
 statusAt none s = 0
 statusAt (some r) s = statusOf (inRow r .get s)

@@ -3,8 +3,7 @@ use native.Mathlib.Omega.{arith}
 use mathlib.Core.Path.{_≡_}
 use Prim.Native.Nat.{_≤_, _-_}
 use Rattle.laws.specs.All.{pairs, pairs-start, pairs-row, pairs-end}
-use Rattle.state.specs.State.{State}
-use Rattle.sound_slots.specs.Slots.{withNames}
+use Rattle.state.specs.State.{State, withNames}
 use Rattle.state.specs.Soundness.{namesApart}
 use Rattle.sound_slots.proofs.all_names_apart.Statement.{statement}
 use Rattle.sound_slots.proofs.all_names_apart.Tie as tie

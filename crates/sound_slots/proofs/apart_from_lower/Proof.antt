@@ -3,8 +3,7 @@ use native.Mathlib.Omega.{arith}
 use mathlib.Core.Path.{_≡_}
 use Prim.Native.Nat.{_≤_, _-_}
 use Rattle.laws.specs.All.{all, all-start, all-step, all-end, flag-false, clash-none}
-use Rattle.state.specs.State.{State}
-use Rattle.sound_slots.specs.Slots.{withNames}
+use Rattle.state.specs.State.{State, withNames}
 use Rattle.state.specs.Soundness.{namesApart}
 use borrow.Author.Needs.{needs}
 use Rattle.sound_slots.proofs.apart_from_lower.Statement.{statement}
