@@ -2,7 +2,12 @@
 # run.sh [STORY.txt]: tells a recorded story in words: each request, and what the library answered. The story of the two clients of one name, if none is given.
 # It proves and builds blobrun first, where that was not done yet; what the prover prints goes to target/blobrun.log.
 set -eu
-[ $# -le 1 ] || { echo "usage: run.sh [STORY.txt]" >&2; exit 1; }
+usage() { echo "usage: run.sh [STORY.txt]    (tools/recording.py --help says how a story is written)"; }
+case "$#${1:-}" in
+  0 | 1[!-]*) ;;
+  1-h | 1--help) usage; exit 0 ;;
+  *) usage >&2; exit 1 ;;
+esac
 root=$(cd "$(dirname "$0")/.." && pwd)
 story=${1:-$root/examples/two-moreaus.txt}
 out=$(mktemp -d)

@@ -5,14 +5,14 @@
  * and cleanup. It is proved: for every input the result, and every word and byte of the memory lent to it, are those of its rules. This page
  * says how to call it from C, and has every number that a client of the protocol needs; docs/PROTOCOL.md has the rules.
  *
- * In this order: version; messages (frame, CRC, subcommands and their fields, flags, states, names, completion codes, times); the memory to
- * lend and what stands in it; the two functions; the memory as one struct. The two functions are proved; the inline functions of this page are
- * plain C, tested and not proved.
+ * In this order: version; messages (frame, CRC, subcommands and their fields, flags, states, names, completion codes, times, what a client does);
+ * the memory to lend and what stands in it; the two functions; the memory as one struct. The two functions are proved; the inline functions of this
+ * page are plain C, tested and not proved. It needs C99 or later, or C++11 or later, and a machine that the archive was made for (x86-64).
  *
  * Memory. The caller owns all memory and lends it for the time of a call. The library allocates nothing, has no global state and keeps no
  * pointer. Lend the same memory at each call, and write nothing into it in between: it is the whole state. (The answer buffer is no part of it.)
  * Zero all of it once, at start (memset, or static storage): all zeros is the fresh state, with no blob, no session and no update under way.
- * Nothing in it is a pointer, so it may be copied or saved as a whole.
+ * Nothing in it is a pointer, so it may be copied or saved as a whole; with memory that was saved the clock must go on from where it was.
  *
  * - No pointer may be null, not even one to a length of 0.
  * - Each length is the true number of elements behind its pointer: 32-bit words for control and table, bytes for all else.
@@ -24,7 +24,7 @@
  * nothing is changed. So wrong lengths and damaged memory are refused, but null or dangling pointers and false lengths are not caught.
  *
  * Threads. Calls on different memory may run at the same time. Calls on the same memory must not: hold a lock, or call from one task.
- * A call does not block and always ends. It needs little stack: about 2 KB were measured on x86-64, over every subcommand (measured, not proved).
+ * A call does not block and always ends. It needs little stack: less than 3 KB on x86-64, over every subcommand (measured, not proved).
  */
 #ifndef KRAMSNEP_H
 #define KRAMSNEP_H
@@ -50,11 +50,13 @@ extern "C" {
  *   4-5   CRC of the fields
  *   6-    fields
  * A message without fields ends behind the subcommand and has no CRC, but the response to a Read has one even when no data follow.
- * Network function and command byte, which stand in front of a request (0x2E and 0x80 for the Phosphor blob commands), and the completion code
- * in front of a response are no part of it. */
+ * What IPMI puts in front of it is no part of it: network function and command byte (those of the Phosphor blob commands are given here), and the
+ * completion code of a response. */
+#define KRAMSNEP_IPMI_NETFN 0x2E /* a response has 0x2F */
+#define KRAMSNEP_IPMI_COMMAND 0x80
 #define KRAMSNEP_MESSAGE_SIZE 64 /* a request is at most this long; so is a response */
 #define KRAMSNEP_OEM_NUMBER 49871
-#define KRAMSNEP_OEM_BYTES 0xCF, 0xC2, 0x00 /* for an initializer: uint8_t message[] = {KRAMSNEP_OEM_BYTES, KRAMSNEP_COMMAND_COUNT} */
+#define KRAMSNEP_OEM_BYTES 0xCF, 0xC2, 0x00 /* for an initializer: uint8_t message[] = {KRAMSNEP_OEM_BYTES, KRAMSNEP_COMMAND_GET_COUNT} */
 #define KRAMSNEP_OEM_SIZE 3
 #define KRAMSNEP_SUBCOMMAND_AT 3
 #define KRAMSNEP_HEADER_SIZE 4
@@ -99,7 +101,7 @@ static inline uint16_t kramsnep_crc(const uint8_t *bytes, size_t n)
  *   10 WriteMeta     12 or more   session (2) at 6                             none
  *
  * The commit length must be 0, so that an accepted Commit has 9 bytes; the metadata length is 0. A WriteMeta is always refused. */
-#define KRAMSNEP_COMMAND_COUNT 0
+#define KRAMSNEP_COMMAND_GET_COUNT 0
 #define KRAMSNEP_COMMAND_ENUMERATE 1
 #define KRAMSNEP_COMMAND_OPEN 2
 #define KRAMSNEP_COMMAND_READ 3
@@ -110,8 +112,34 @@ static inline uint16_t kramsnep_crc(const uint8_t *bytes, size_t n)
 #define KRAMSNEP_COMMAND_STAT 8
 #define KRAMSNEP_COMMAND_SESSION_STAT 9
 #define KRAMSNEP_COMMAND_WRITE_META 10
+#define KRAMSNEP_COMMAND_LAST 10
 
-/* The offsets of that table. In requests: */
+/* The lengths of that table: of the whole request, or the least that it can have. */
+#define KRAMSNEP_GET_COUNT_REQUEST_SIZE 4
+#define KRAMSNEP_ENUMERATE_REQUEST_SIZE 10
+#define KRAMSNEP_OPEN_REQUEST_LEAST 9
+#define KRAMSNEP_READ_REQUEST_SIZE 16
+#define KRAMSNEP_WRITE_REQUEST_LEAST 12
+#define KRAMSNEP_COMMIT_REQUEST_LEAST 9
+#define KRAMSNEP_CLOSE_REQUEST_SIZE 8
+#define KRAMSNEP_DELETE_REQUEST_LEAST 7
+#define KRAMSNEP_STAT_REQUEST_LEAST 7
+#define KRAMSNEP_SESSION_STAT_REQUEST_SIZE 8
+#define KRAMSNEP_WRITE_META_REQUEST_LEAST 12
+
+/* The bytes of its fields. */
+#define KRAMSNEP_INDEX_WIDTH 4
+#define KRAMSNEP_FLAGS_WIDTH 2
+#define KRAMSNEP_SESSION_WIDTH 2
+#define KRAMSNEP_OFFSET_WIDTH 4
+#define KRAMSNEP_READ_COUNT_WIDTH 4
+#define KRAMSNEP_COMMIT_LENGTH_WIDTH 1
+#define KRAMSNEP_COUNT_WIDTH 4
+#define KRAMSNEP_STATE_WIDTH 2
+#define KRAMSNEP_SIZE_WIDTH 4
+#define KRAMSNEP_METADATA_LENGTH_WIDTH 1
+
+/* Its offsets. In requests: */
 #define KRAMSNEP_INDEX_AT 6
 #define KRAMSNEP_FLAGS_AT 6
 #define KRAMSNEP_OPEN_NAME_AT 8
@@ -141,7 +169,7 @@ static inline uint16_t kramsnep_crc(const uint8_t *bytes, size_t n)
 #define KRAMSNEP_STATE_OPEN_READ 0x0001    /* its session has READ */
 #define KRAMSNEP_STATE_OPEN_WRITE 0x0002   /* its session has WRITE */
 #define KRAMSNEP_STATE_COMMITTING 0x0004   /* its job runs */
-#define KRAMSNEP_STATE_COMMITTED 0x0008    /* its job or its cleanup succeeded; of a store blob: what is shown is what is committed */
+#define KRAMSNEP_STATE_COMMITTED 0x0008    /* its job or its cleanup succeeded; of a store blob: committed, and nothing written since */
 #define KRAMSNEP_STATE_COMMIT_ERROR 0x0010 /* its job failed */
 
 /* Names: 1 to KRAMSNEP_NAME_MOST bytes, none of them NUL, then the NUL. Small and capital letters differ. There are
@@ -176,6 +204,18 @@ static inline uint16_t kramsnep_crc(const uint8_t *bytes, size_t n)
 #define KRAMSNEP_SWEEP_EVERY 60
 #define KRAMSNEP_SESSION_LIFE 600
 
+/* What a client does. Use only sessions that your own Opens were given: whoever knows an identifier can use it.
+ *
+ * To store a scan: Open its name with READ_WRITE; Write it, from offset 0 on, in parts of at most KRAMSNEP_WRITE_MOST bytes; Commit; Close. Without the
+ *   Commit, Close drops what was written. A Write does not shorten what the name held: for a shorter scan Delete the name first.
+ * To read one: Open with READ; Read from offset 0 on, until a response has fewer bytes than were asked for (the most are KRAMSNEP_READ_MOST); Close.
+ * To replace firmware, every name opened with WRITE, and one at a time:
+ *   1. Open the image (which empties it), Write it, Close. The same with the hash.
+ *   2. Open verify, Commit: the job starts. SessionStat until COMMITTING is no longer set. COMMITTED: Close, and the image is verified.
+ *      COMMIT_ERROR: Commit again, or Close and upload again.
+ *   3. The same with update, which can be opened only then: Close, and image and hash are empty again.
+ *   To give up before that: Open cleanup, Commit, Close. */
+
 /* ---- Memory
  *
  * The lengths to lend: words for the first two, bytes for the others. */
@@ -209,9 +249,9 @@ static inline uint16_t kramsnep_crc(const uint8_t *bytes, size_t n)
 #define KRAMSNEP_CONTROL_NEXT 38
 #define KRAMSNEP_CONTROL_LAST_SWEEP 39
 
-#define KRAMSNEP_IDLE 0
-#define KRAMSNEP_UPLOADING 1
-#define KRAMSNEP_VERIFIED 2
+#define KRAMSNEP_PHASE_IDLE 0
+#define KRAMSNEP_PHASE_UPLOADING 1
+#define KRAMSNEP_PHASE_VERIFIED 2
 
 /* The session table, 16 rows of four words:
  *   0  identifier
@@ -253,7 +293,8 @@ static inline uint16_t kramsnep_crc(const uint8_t *bytes, size_t n)
  *
  * request, request_len: the message as it came, from the OEM number on (network function and command byte are not part of it). Any length may be
  *   passed, 0 too; above 64 it is refused.
- * clock: seconds, from any start. It stamps sessions, and an Open sweeps by it (see Times). It may run backward.
+ * clock: seconds, from any start. It stamps sessions, and an Open sweeps by it (see Times). Take one that nobody sets: it may run backward, but then
+ *   no session gets stale until it has passed its old reading.
  * answer: on success the response stands in its first KRAMSNEP_LENGTH(result) bytes, and the bytes behind keep their values; a refusal changes none.
  *
  * The result is the completion code in the lowest byte and the length of the response above it. */
@@ -282,9 +323,10 @@ uint32_t kramsnep_job_outcome(uint32_t verdict, const uint32_t *control, size_t 
                               const uint8_t *staged, size_t staged_len, const uint8_t *image, size_t image_len,
                               const uint8_t *hash, size_t hash_len);
 
-/* Which job runs: KRAMSNEP_BLOB_VERIFY, KRAMSNEP_BLOB_UPDATE, or -1 if none does. It reads the mask of rows in use in the control block and, of
+/* Which job runs: KRAMSNEP_BLOB_VERIFY, KRAMSNEP_BLOB_UPDATE, or KRAMSNEP_NO_JOB if none does. It reads the mask of rows in use in the control block and, of
  * each row in use, blob and job status; nothing else, and nothing of the other rows. It changes nothing, and does not test the state: of damaged
  * memory too it gives one of the three. */
+#define KRAMSNEP_NO_JOB (-1)
 static inline int kramsnep_running_job(const uint32_t *control, const uint32_t *table)
 {
     for (int row = 0; row < KRAMSNEP_ROWS; row++) {
@@ -294,7 +336,7 @@ static inline int kramsnep_running_job(const uint32_t *control, const uint32_t *
         if (words[KRAMSNEP_ROW_BLOB] == KRAMSNEP_BLOB_VERIFY || words[KRAMSNEP_ROW_BLOB] == KRAMSNEP_BLOB_UPDATE)
             return (int)words[KRAMSNEP_ROW_BLOB];
     }
-    return -1;
+    return KRAMSNEP_NO_JOB;
 }
 
 /* ---- All of it in one place, for callers who keep it so */

@@ -3,7 +3,7 @@
 
 header.py --check    needs a C compiler (CC, or cc); C++ is tried where there is a compiler for it (CXX, or c++)
 
-- It compiles alone, as C99 and as C++11, without a warning.
+- It compiles alone, as C99 and as C++11, without a warning; and so does the handler of docs/HOOKING.md.
 - Each of its numbers is the value of the definition that NUMBERS names for it, in the specs and, where the code has the number too, in the code; no number of the header is
   without a definition, and no number of Numbers.antt is missing that a client needs.
 - The table of requests and responses in its comment is that of Decode.antt and of the replies. Names, OEM bytes and version are those of Names.antt, of Numbers.antt and of the
@@ -33,16 +33,21 @@ NUMBERS = {
     "MESSAGE_SIZE": "messageSize, protocol::MESSAGE_SIZE", "OEM_SIZE": "len(oem), protocol::OEM_SIZE", "SUBCOMMAND_AT": "len(oem), subcommand",
     "HEADER_SIZE": "headerSize, protocol::HEADER_SIZE", "CRC_AT": "headerSize", "CRC_SIZE": "crcSize", "FIELDS_AT": "fieldsAt, protocol::FIELDS_AT",
     "CRC_START": "start, crc::START", "CRC_POLYNOMIAL": "poly",
-    "COMMAND_COUNT": "countCommand, protocol::Subcommand::COUNT", "COMMAND_ENUMERATE": "enumerateCommand, protocol::Subcommand::ENUMERATE",
+    "COMMAND_GET_COUNT": "countCommand, protocol::Subcommand::COUNT", "COMMAND_ENUMERATE": "enumerateCommand, protocol::Subcommand::ENUMERATE",
     "COMMAND_OPEN": "openCommand, protocol::Subcommand::OPEN", "COMMAND_READ": "readCommand, protocol::Subcommand::READ",
     "COMMAND_WRITE": "writeCommand, protocol::Subcommand::WRITE", "COMMAND_COMMIT": "commitCommand, protocol::Subcommand::COMMIT",
     "COMMAND_CLOSE": "closeCommand, protocol::Subcommand::CLOSE", "COMMAND_DELETE": "deleteCommand, protocol::Subcommand::DELETE",
     "COMMAND_STAT": "statCommand, protocol::Subcommand::STAT", "COMMAND_SESSION_STAT": "sessionStatCommand, protocol::Subcommand::SESSION_STAT",
-    "COMMAND_WRITE_META": "writeMetaCommand, protocol::Subcommand::WRITE_META",
-    "INDEX_AT": "Enumerate.index", "FLAGS_AT": "Open.flags", "OPEN_NAME_AT": "Open.name", "NAME_AT": "Delete.name, Stat.name, fieldsAt",
-    "SESSION_AT": "Read.session, Write.session, Commit.session, Close.session, SessionStat.session, WriteMeta.session, fieldsAt",
+    "COMMAND_WRITE_META": "writeMetaCommand, protocol::Subcommand::WRITE_META", "COMMAND_LAST": "writeMetaCommand",
+    "INDEX_WIDTH": "Enumerate.index.width", "FLAGS_WIDTH": "Open.flags.width", "OFFSET_WIDTH": "Read.offset.width, Write.offset.width", "READ_COUNT_WIDTH": "Read.count.width",
+    "SESSION_WIDTH": "Open.reply.session.width, Read.session.width, Write.session.width, Commit.session.width, Close.session.width, SessionStat.session.width, WriteMeta.session.width",
+    "COMMIT_LENGTH_WIDTH": "Commit.commitLength.width", "COUNT_WIDTH": "Count.reply.count.width", "STATE_WIDTH": "Stat.reply.state.width, SessionStat.reply.state.width",
+    "SIZE_WIDTH": "Stat.reply.size.width, SessionStat.reply.size.width", "METADATA_LENGTH_WIDTH": "Stat.reply.metadataLength.width, SessionStat.reply.metadataLength.width",
+    "INDEX_AT": "Enumerate.index", "FLAGS_AT": "Open.flags", "OPEN_NAME_AT": "Open.name", "NAME_AT": "Delete.name, Stat.name, Enumerate.reply.name",
+    "SESSION_AT": "Read.session, Write.session, Commit.session, Close.session, SessionStat.session, WriteMeta.session, Open.reply.session",
     "OFFSET_AT": "Read.offset, Write.offset", "READ_COUNT_AT": "Read.count", "WRITE_DATA_AT": "Write.data", "COMMIT_LENGTH_AT": "Commit.commitLength",
-    "COUNT_AT": "fieldsAt", "READ_DATA_AT": "fieldsAt", "STATE_AT": "fieldsAt", "SIZE_AT": "fieldsAt + stateWidth", "METADATA_LENGTH_AT": "fieldsAt + stateWidth + sizeWidth",
+    "COUNT_AT": "Count.reply.count", "READ_DATA_AT": "Read.reply.data", "STATE_AT": "Stat.reply.state, SessionStat.reply.state", "SIZE_AT": "Stat.reply.size, SessionStat.reply.size",
+    "METADATA_LENGTH_AT": "Stat.reply.metadataLength, SessionStat.reply.metadataLength",
     "WRITE_MOST": "writeMost, messageSize - Write.data", "READ_MOST": "readMost, protocol::READ_MOST, messageSize - fieldsAt",
     "FLAGS_READ": "readOnly, protocol::Flags::READ", "FLAGS_WRITE": "writeOnly, protocol::Flags::WRITE", "FLAGS_READ_WRITE": "readWrite, protocol::Flags::READ_WRITE",
     "STATE_OPEN_READ": "stateOpenRead, protocol::BlobState::OPEN_READ", "STATE_OPEN_WRITE": "stateOpenWrite, protocol::BlobState::OPEN_WRITE",
@@ -61,7 +66,7 @@ NUMBERS = {
     "CONTROL_COMMITTED_LENGTHS": "committedLensAt, capi_control::COMMITTED_LENS_AT", "CONTROL_STAGED_LENGTHS": "stagedLensAt, capi_control::STAGED_LENS_AT",
     "CONTROL_PHASE": "phaseAt, capi_control::PHASE_AT", "CONTROL_IMAGE_LENGTH": "imageLenAt, capi_control::IMAGE_LEN_AT", "CONTROL_HASH_LENGTH": "hashLenAt, capi_control::HASH_LEN_AT",
     "CONTROL_NEXT": "nextAt, capi_control::NEXT_AT", "CONTROL_LAST_SWEEP": "lastSweepAt, capi_control::LAST_SWEEP_AT",
-    "IDLE": "phaseNumber.Idle", "UPLOADING": "phaseNumber.Uploading", "VERIFIED": "phaseNumber.Verified, capi_control::VERIFIED",
+    "PHASE_IDLE": "phaseNumber.Idle", "PHASE_UPLOADING": "phaseNumber.Uploading", "PHASE_VERIFIED": "phaseNumber.Verified, capi_control::VERIFIED",
     "ROWS": "rowCount, state::ROWS", "ROW_WORDS": "rowWords, state::ROW_WORDS", "ROW_IDENTIFIER": "idOf", "ROW_BLOB": "blobOf", "ROW_FLAGS": "wordOf", "ROW_STAMP": "stampOf",
     "SLOTS": "slotCount, state::SLOTS", "NAME_SIZE": "nameSize, state::NAME_SIZE", "SLOT_SIZE": "slotSize, state::SLOT_SIZE",
     "BLOB_IMAGE": "imageBlob, flashNumber.Image", "BLOB_HASH": "hashBlob, flashNumber.Hash", "BLOB_VERIFY": "verifyBlob, flashNumber.Verify",
@@ -72,7 +77,7 @@ NUMBERS = {
 NAMES = {"NAME_BASE": ("base", "protocol::BASE"), "NAME_IMAGE": ("flashName.Image", "protocol::FLASH_IMAGE"), "NAME_HASH": ("flashName.Hash", "protocol::FLASH_HASH"),
          "NAME_VERIFY": ("flashName.Verify", "protocol::FLASH_VERIFY"), "NAME_UPDATE": ("flashName.Update", "protocol::FLASH_UPDATE"),
          "NAME_CLEANUP": ("flashName.Cleanup", "protocol::FLASH_CLEANUP")}
-OTHERS = {"OEM_NUMBER", "OEM_BYTES", "VERSION", "VERSION_MAJOR", "VERSION_MINOR", "VERSION_PATCH", *NAMES}
+OTHERS = {"OEM_NUMBER", "OEM_BYTES", "IPMI_NETFN", "IPMI_COMMAND", "NO_JOB", "VERSION", "VERSION_MAJOR", "VERSION_MINOR", "VERSION_PATCH", *NAMES}
 NOT_NEEDED = {"sixteenBits": "a bound that soundness tests", "wordLimit": "a bound that soundness tests", "cleanUnit": "read by the library alone",
               "statusUnit": "inside KRAMSNEP_JOB_STATUS, which is tried"}
 FIELD_NAMES = {"blob": "name", "start": "data", "len": "commit length"}
@@ -178,9 +183,26 @@ def responses():
 def definitions():
     known = {**spec_values(), **code_values()}
     for name, (_, _, fields) in requests().items():
-        known.update({f"{name}.{'commitLength' if field == 'commit length' else field}": at for field, _, at in fields})
-    (_, known["stateWidth"], _), (_, known["sizeWidth"], _), _ = responses()["Stat"]
+        known.update(places_and_widths(name, fields))
+    for name, fields in responses().items():
+        known.update(places_and_widths(f"{name}.reply", fields))
     return known
+
+
+def places_and_widths(name, fields):
+    """name.field -> place of each field, and name.field.width -> its bytes, where they are fixed."""
+    words = {"commit length": "commitLength", "metadata length": "metadataLength"}
+    named = [(f"{name}.{words.get(field, field)}", width, at) for field, width, at in fields]
+    return {**{field: at for field, _, at in named}, **{f"{field}.width": width for field, width, _ in named if width}}
+
+
+def lengths():
+    """LENGTH of a request as a macro -> its length: NAME_REQUEST_SIZE where it is fixed, NAME_REQUEST_LEAST else."""
+    found = {}
+    for name, (_, length, _) in requests().items():
+        words = "GET_COUNT" if name == "Count" else re.sub("(?<=[a-z])(?=[A-Z])", "_", name).upper()
+        found[f"{words}_REQUEST_{'LEAST' if 'or more' in length else 'SIZE'}"] = int(length.split()[0])
+    return found
 
 
 # ---- the header, compiled
@@ -222,12 +244,21 @@ def alone():
     return faults
 
 
+def hooking():
+    """The handler of docs/HOOKING.md compiles."""
+    [code] = re.findall(r"(?ms)^```c$(.*?)^```$", (ROOT / "docs" / "HOOKING.md").read_text(encoding="utf-8"))
+    around = "void lock(void); void unlock(void); uint32_t seconds_since_start(void); int start(int job); extern int job_was_started;\nsize_t blob_request(const uint8_t *, size_t, uint8_t[1 + KRAMSNEP_ANSWER_SIZE]);\n"
+    done = subprocess.run([*compiler(), "-x", "c", "-std=c99", *STRICT, "-fsyntax-only", "-"], input=f'#include "{HEADER}"\n{around}{code}', capture_output=True, text=True, check=False)
+    return [done.stderr] if done.returncode else []
+
+
 def numbers():
-    known, there = definitions(), macros()
-    faults = [f"{PREFIX}{name} is not in the header" for name in sorted({*NUMBERS, *OTHERS} - set(there))]
-    faults += [f"{PREFIX}{name} has no definition in this test" for name in sorted(set(there) - {*NUMBERS, *OTHERS})]
-    for name, found in printed([name for name in NUMBERS if name in there]).items():
-        for expression in NUMBERS[name].split(", "):
+    known, there = {**definitions(), **lengths()}, macros()
+    said = {**NUMBERS, **{name: name for name in lengths()}}
+    faults = [f"{PREFIX}{name} is not in the header" for name in sorted({*said, *OTHERS} - set(there))]
+    faults += [f"{PREFIX}{name} has no definition in this test" for name in sorted(set(there) - {*said, *OTHERS})]
+    for name, found in printed([name for name in said if name in there]).items():
+        for expression in said[name].split(", "):
             wanted = value(expression, known)
             if found != wanted:
                 faults.append(f"{PREFIX}{name} is {found}, and {expression} is {wanted}")
@@ -252,6 +283,16 @@ def oem_and_names():
     if printed(["OEM_NUMBER"])["OEM_NUMBER"].to_bytes(len(known["oem"]), "little") != known["oem"]:
         faults.append(f"{PREFIX}OEM_NUMBER is not the number of Numbers.oem")
     return faults
+
+
+def around():
+    """Network function and command are those that the tools and the example for IPMI send; the library does not see them. NO_JOB is no blob's number."""
+    tools = re.search(r"(?m)^NETWORK_FUNCTION, COMMAND = (\w+), (\w+)$", (ROOT / "tools" / "blob_recording" / "ipmitool.py").read_text(encoding="utf-8")).groups()
+    example = re.search(r"(?m)^NETFN, COMMAND = (\w+), (\w+)$", (ROOT / "examples" / "ipmi" / "drive.py").read_text(encoding="utf-8")).groups()
+    found = printed(["IPMI_NETFN", "IPMI_COMMAND", "NO_JOB"])
+    header = found["IPMI_NETFN"], found["IPMI_COMMAND"]
+    faults = [f"{PREFIX}IPMI_NETFN and {PREFIX}IPMI_COMMAND are {header}, and {one} elsewhere" for one in (tools, example) if tuple(int(word, 16) for word in one) != header]
+    return faults + ([f"{PREFIX}NO_JOB is a blob's number"] if found["NO_JOB"] >= 0 else [])
 
 
 def rows_of_table():
@@ -294,14 +335,14 @@ def crc():
 
 def jobs():
     """The running job of tables with one row: in use or not, each blob, each status."""
-    known, wanted, body = definitions(), [], ["    uint32_t control[KRAMSNEP_CONTROL_WORDS] = {0}, table[KRAMSNEP_TABLE_WORDS] = {0};"]
+    known, wanted, none, body = definitions(), [], printed(["NO_JOB"])["NO_JOB"], ["    uint32_t control[KRAMSNEP_CONTROL_WORDS] = {0}, table[KRAMSNEP_TABLE_WORDS] = {0};"]
     for row in (0, 7, known["rowCount"] - 1):
         at = row * known["rowWords"]
         for blob in (0, known["imageBlob"], known["verifyBlob"], known["updateBlob"], known["cleanupBlob"], known["cleanupBlob"] + 1):
             for status in range(4):
                 for mask in (0, 1 << row, 0xFFFF & ~(1 << row)):
                     runs = mask == 1 << row and status == known["running"] and blob in (known["verifyBlob"], known["updateBlob"])
-                    wanted.append(blob if runs else -1)
+                    wanted.append(blob if runs else none)
                     word = known["writeOnly"] + status * known["statusUnit"]
                     body.append(f"    control[{known['word.rows']}] = {mask}u; table[{at + known['blobOf']}] = {blob}; table[{at + known['wordOf']}] = {word}u;")
                     body.append('    printf("%d\\n", kramsnep_running_job(control, table));')
@@ -333,7 +374,7 @@ def main():
     if sys.argv[1:] != ["--check"]:
         sys.exit(__doc__)
     failed = False
-    for test in (alone, numbers, nothing_missing, oem_and_names, table, crc, jobs, parts, version):
+    for test in (alone, hooking, numbers, nothing_missing, oem_and_names, around, table, crc, jobs, parts, version):
         faults = test()
         failed |= bool(faults)
         print("\n".join(f"header, {test.__name__}: {fault}" for fault in faults) or f"header, {test.__name__}: as defined")

@@ -111,6 +111,19 @@ def interrupted(folder):
     print("ipmi, ended from outside: nothing is left behind")
 
 
+def served(folder):
+    """run.sh --serve: a controller that can be asked, and that is ended with the script."""
+    own = pathlib.Path(tempfile.mkdtemp(dir=folder))
+    process = subprocess.Popen([str(RUN), "--serve"], env={**os.environ, "TMPDIR": str(own)}, stdout=subprocess.PIPE, stderr=subprocess.STDOUT, text=True)
+    process.stdout.readline()
+    words = process.stdout.readline().split()
+    answer = subprocess.run(words, capture_output=True, text=True, timeout=60, check=False)
+    process.send_signal(signal.SIGTERM)
+    ended(process, own)
+    expect("asked by the words that it says", answer.stdout.split() == "cf c2 00 00 31 4e 04 00 00 00".split(), answer)
+    print("ipmi, a controller to be asked by hand: answers, and is ended")
+
+
 def processes_below(pid):
     """The command lines of a process's children, and of theirs."""
     lines, waiting = [], [pid]
@@ -191,6 +204,7 @@ def main():
             return
         faults(folder)
         interrupted(folder)
+        served(folder)
 
 
 if __name__ == "__main__":

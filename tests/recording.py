@@ -13,13 +13,14 @@ import tempfile
 
 ROOT = pathlib.Path(__file__).resolve().parent.parent
 sys.path.insert(0, str(ROOT / "tools"))
+import fake_ipmitool  # noqa: E402
 import recording  # noqa: E402
 from blob_recording import story, transcript  # noqa: E402
 
 TOOL = ROOT / "tools" / "recording.py"
 BLOBRUN = ROOT / "target" / "bin" / "blobrun"
 STORIES = sorted((ROOT / "examples").glob("*.txt"))
-COMMANDS = ["make", "show", "tell", "upload", "download", "received", "to-ipmitool", "from-ipmitool", "ipmitool-answers"]
+COMMANDS = ["make", "show", "tell", "upload", "download", "received", "store", "fetch", "to-ipmitool", "from-ipmitool", "ipmitool-answers"]
 
 
 def expect(what, found, wanted):
@@ -303,18 +304,18 @@ SHOWN = """\
  7 open /scan/a 0003 -> accepted: session 0
  7 write 0 0 'it\\'s "7"' -> accepted
  7 write 0 8 00ff -> accepted
- 7 sessionstat 0 -> accepted: state 3: open for reading, open for writing; size 10
+ 7 sessionstat 0 -> accepted: state 0003: open for reading, open for writing; size 10
  7 commit 0 -> accepted
- 7 stat /scan/a -> accepted: state b: open for reading, open for writing, committed; size 10
+ 7 stat /scan/a -> accepted: state 000b: open for reading, open for writing, committed; size 10
  7 read 0 0 8 -> accepted: 8 bytes 'it\\'s "7"'
  7 read 0 7 58 -> accepted: 3 bytes 2200ff
  7 read 0 10 58 -> accepted: 0 bytes ''
  7 close 0 -> accepted
- 7 stat /scan/a -> accepted: state 8: not open, committed; size 10
+ 7 stat /scan/a -> accepted: state 0008: not open, committed; size 10
  7 open /scan/a 0001 -> accepted: session 1
- 7 sessionstat 1 -> accepted: state 9: open for reading, committed; size 10
+ 7 sessionstat 1 -> accepted: state 0009: open for reading, committed; size 10
  7 write 1 0 'A' -> refused, code D5: this blob or session does not do that
- 7 stat /scan/ -> accepted: state 0: not open; size 0
+ 7 stat /scan/ -> accepted: state 0000: not open; size 0
  7 count -> accepted: 5 names
  7 enumerate 1 -> accepted: /scan/a
  7 enumerate 5 -> refused, code C9: index or offset out of range
@@ -323,7 +324,7 @@ SHOWN = """\
  7 close 2 -> accepted
  7 open /flash/verify 0002 -> accepted: session 3
  7 commit 3 -> accepted
- 7 sessionstat 3 -> accepted: state 6: open for writing, job running; size 0
+ 7 sessionstat 3 -> accepted: state 0006: open for writing, job running; size 0
  7 close 3 -> refused, code C0: the blob or the flash is in use, or a job runs
  7 delete '/scan/a b' -> refused, code CB: no such blob or session
  7 writemeta 1 -> refused, code D5: this blob or session does not do that
@@ -343,11 +344,23 @@ def showing():
     for line, wanted in zip(found.splitlines(), SHOWN.splitlines()):
         expect("in words", line.strip(), wanted.strip())
     expect("how many lines", found.count("\n"), SHOWN.count("\n") + 1)
+    pointed_out()
     for state, words in ((0x0A, "open for writing, committed"), (0x12, "open for writing, job failed"), (0x8123, "open for reading, open for writing, unknown bits 8120")):
         expect(f"state {state:x}", transcript.state_in_words(state), words)
     for code in (0xC4, 0xC8, 0xFF):
         expect(f"code {code:02X} is one of the library", "no code of this library" in transcript.refusal(code), False)
     expect("another code", transcript.refusal(0xD4), "refused, code D4: no code of this library")
+
+
+def pointed_out():
+    """A request that met a session which no Open of its recording was given."""
+    first, second = recording.make("7 open /scan/a 0003\n"), recording.make("7 open /scan/b 0003\n7 write 0 0 'b'\n7 write 1 0 'b'\n7 close 1\n7 close 1\n7 close 0\n")
+    lines = blobrun(first + second).splitlines(keepends=True)[1:]
+    with tempfile.TemporaryDirectory() as name:
+        (pathlib.Path(name) / "requests").write_bytes(second)
+        found = [line.partition(" -> ")[2] for line in good("show", "requests", "-", data=b"".join(lines), folder=name).decode().splitlines()]
+    expect("another's session", found, ["accepted: session 1", "accepted (but no Open here was given session 0)", "accepted", "accepted", "refused, code CB: no such blob or session",
+                                        "accepted (but no Open here was given session 0)"])
 
 
 def wrong_lines():
@@ -440,13 +453,61 @@ def not_received():
         expect("one of two names", found, (0, b"abcdef", "/scan/a: 6 bytes, and there may be more: no Read met the end\n"))
 
 
-def printed_by_ipmitool(line):
-    """What `ipmitool raw` prints where blobrun prints that line: bytes, 16 a line, or a refusal in words."""
-    code, _, response = line.partition(" ")
-    if code != "00":
-        return f"Unable to send RAW command (channel=0x0 netfn=0x2e lun=0x0 cmd=0x80 rsp=0x{int(code, 16):x}): Some words\n"
-    data = bytes.fromhex(response)
-    return "".join("".join(f" {byte:02x}" for byte in data[at:at + 16]) + "\n" for at in range(0, len(data), 16))
+def stored():
+    """Through a client, request by request: the session is the one that was given, what is committed is the file or nothing, and the session is closed."""
+    with tempfile.TemporaryDirectory() as name:
+        folder = pathlib.Path(name)
+        client = [sys.executable, ROOT / "tests" / "fake_ipmitool.py", "history"]
+        others = "0 open /scan/other 0003\n0 write 0 0 'the foot of another'\n"
+
+        def begins(text=""):
+            (folder / "history").write_bytes(recording.make(others + text))
+
+        def asked():
+            data = (folder / "history").read_bytes()
+            (folder / "lines").write_bytes(blobrun(data))
+            return good("show", "history", "lines", folder=folder).decode().splitlines()
+
+        for data in (b"", b"one foot", bytes(range(256)) * 2):
+            begins()
+            (folder / "file").write_bytes(data)
+            good("store", "/scan/foot", "file", *client, folder=folder)
+            good("fetch", "/scan/foot", "back", *client, folder=folder)
+            expect(f"{len(data)} bytes there and back", (folder / "back").read_bytes(), data)
+            expect("no request on another's session", [line for line in asked()[2:] if "refused" in line or "no Open" in line], [])
+            good("make", "-", "more", data=b"0 read 0 0 58\n", folder=folder)
+            (folder / "history").write_bytes((folder / "history").read_bytes() + (folder / "more").read_bytes())
+            expect("the other's bytes", asked()[-1].strip(), "0 read 0 0 58 -> accepted: 19 bytes 'the foot of another'")
+        not_stored(folder, client, begins, asked)
+
+
+def not_stored(folder, client, begins, asked):
+    """Each failure is told in a line; nothing is committed, and no session is left."""
+    (folder / "file").write_bytes(b"one foot")
+    longer = "0 open /scan/foot 0003\n0 write 1 0 'a longer scan'\n0 commit 1\n0 close 1\n"
+    full = "".join(f"0 open /scan/x{i} 0003\n" for i in range(15))
+    cases = [(longer, [], "/scan/foot", "/scan/foot holds 13 bytes, and the file has 8: nothing was committed (--replace deletes the name first)", "close 2 -> accepted"),
+             ("", [], "/scan/other", "open /scan/other 0003: refused, code C0: the blob or the flash is in use, or a job runs", "refused, code C0: the blob or the flash is in use, or a job runs"),
+             ("", ["--replace"], "/scan/other", "delete /scan/other: refused, code C0: the blob or the flash is in use, or a job runs", "refused, code C0: the blob or the flash is in use, or a job runs"),
+             (full, [], "/scan/foot", "open /scan/foot 0003: refused, code C4: no free row or slot", "refused, code C4: no free row or slot")]
+    for before, options, name, why, last in cases:
+        begins(before)
+        found = tool("store", *options, name, "file", *client, folder=folder)
+        expect(f"store {name}", found, (1, b"", why + "\n"))
+        expect(f"store {name}: the last request", asked()[-1].endswith(last), True)
+        expect(f"store {name}: no Commit", [line for line in asked()[2 + before.count("\n"):] if " commit " in line], [])
+    begins(longer)
+    good("store", "--replace", "/scan/foot", "file", *client, folder=folder)
+    good("fetch", "/scan/foot", "back", *client, folder=folder)
+    expect("replaced", (folder / "back").read_bytes(), b"one foot")
+    begins()
+    refused_files = [("fetch", "/scan/none", "open /scan/none 0001: refused, code CB: no such blob or session", client), ("store", "/scan/a", "which program asks? For example: ipmitool -H HOST -U USER -P PASSWORD raw", []),
+                     ("store", "/scan/a", "none: cannot be run: No such file or directory", ["none"]), ("store", "/scan/a", "open /scan/a 0003: sh got no answer: no route", ["sh", "-c", "echo no route >&2; exit 1"]),
+                     ("store", "/scan/a", "open /scan/a 0003: true got no answer: nothing was printed", ["true"]), ("store", "/scan/a", "CFC20000314E04000000 is no response to open /scan/a 0003", ["sh", "-c", "echo cf c2 00 00 31 4e 04 00 00 00"]),
+                     ("store", "/scan/a-b", "/scan/a-b: a name of the store is /scan/ and 1 to 25 letters or digits", client)]
+    for command, name, why, program in refused_files:
+        expect(f"{command} {name} by {program[:1]}", tool(command, name, "file", *program, folder=folder), (1, b"", why + "\n"))
+    expect("nothing fetched", (folder / "file").read_bytes(), b"one foot")
 
 
 def ipmitool():
@@ -458,7 +519,7 @@ def ipmitool():
         expect(f"{what}: words", words.splitlines(), [" ".join(f"0x{byte:02x}" for byte in b"\x2e\x80" + m) for m in kept])
         expect(f"{what}: back", good("from-ipmitool", "-", "-", "--clock", 7, data=words.encode()), b"".join(map(one_record, kept)))
         lines = blobrun(data).decode()
-        printed = "".join(map(printed_by_ipmitool, lines.splitlines()))
+        printed = "".join(map(fake_ipmitool.printed, lines.splitlines()))
         expect(f"{what}: answers", good("ipmitool-answers", "-", data=printed.encode()).decode(), lines)
     expect("other numbers", good("to-ipmitool", "-", "--netfn", "0x3a", "--cmd", "1", data=one_record(b"\5")), b"0x3a 0x01 0x05\n")
     script = b"# a script\nipmitool -H host -P raw raw 0x2E 128 0xcf 194 0 0x0   # count\n\n"
@@ -479,7 +540,7 @@ def ambiguous(chance):
 def wrong_for_ipmitool():
     """Lines that ipmitool does not take or print are told, and no file is written."""
     both = ambiguous(random.Random(14))
-    texts = list(map(printed_by_ipmitool, both))
+    texts = list(map(fake_ipmitool.printed, both))
     printed = [("cf c2 00", "no response: OEM number, subcommand, length or CRC is wrong"), (" cf c2 00 00 31 4e 04 00 00 01", "no response: OEM number, subcommand, length or CRC is wrong"),
                ("Error: Unable to establish IPMI v2 / RMCP+ session", "neither a response nor a completion code: Error: Unable to establish IPMI v2 / RMCP+ session"),
                ("Unable to send RAW command (channel=0x0 netfn=0x2e lun=0x0 cmd=0x80)", "neither a response nor a completion code: Unable to send RAW command (channel=0x0 netfn=0x2e lun=0x0 cmd=0x80)"),
@@ -501,7 +562,7 @@ def wrong_for_ipmitool():
 def main():
     if sys.argv[1:] != ["--check"]:
         sys.exit(__doc__)
-    for test in (requests, random_messages, faults, bad_files, kept_files, arguments, examples, readme, showing, wrong_lines, transfers, replaced, not_received, ipmitool, wrong_for_ipmitool):
+    for test in (requests, random_messages, faults, bad_files, kept_files, arguments, examples, readme, showing, wrong_lines, transfers, replaced, not_received, stored, ipmitool, wrong_for_ipmitool):
         test()
         print(f"recording, {test.__name__}: as expected")
 

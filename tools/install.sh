@@ -38,3 +38,4 @@ Libs: -L\${libdir} -lkramsnep
 PC
 chmod 644 "$prefix/lib/pkgconfig/kramsnep.pc"
 echo "kramsnep $version: $prefix/include/kramsnep.h, $prefix/lib/libkramsnep.a, $prefix/lib/pkgconfig/kramsnep.pc"
+echo "To build against it: cc program.c \$(PKG_CONFIG_PATH=$prefix/lib/pkgconfig pkg-config --cflags --libs kramsnep)"

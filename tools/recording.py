@@ -21,7 +21,7 @@ import re
 import signal
 import sys
 
-from blob_recording import files, ipmitool, story, transcript, transfer
+from blob_recording import controller, files, ipmitool, story, transcript, transfer
 from blob_recording.files import Fault
 from blob_recording.messages import SCAN_SIZE, message, records  # noqa: F401 (for the tests and benchmarks, which import this file)
 from blob_recording.story import make  # noqa: F401
@@ -83,10 +83,11 @@ def give_story(lines, output):
 
 
 def run_upload(given):
-    """NAME FILE [REQUESTS]: stores a file: Open for writing, Writes of 52 bytes, Commit, Close
+    """NAME FILE [REQUESTS]: a recording that stores a file: Open for writing, Writes of 52 bytes, Commit, Close
 
 Without REQUESTS the readable lines are printed; with it the request file is written. A name holds at most 4,096 bytes.
 A recording says beforehand which session it means: --session is the identifier that the Open will be given, 0 on a fresh library.
+If it is given another, the Writes meet another's session, or none: for a controller that somebody else may use, take `store`.
 A Write does not shorten what a name holds: for a name that may hold more than the file, --replace deletes it first (where there is
 none, that Delete is refused and changes nothing)."""
     files.check_paths([given.file], given.requests)
@@ -95,7 +96,7 @@ none, that Delete is refused and changes nothing)."""
 
 
 def run_download(given):
-    """NAME [REQUESTS]: reads a name back: Open for reading, Reads of 58 bytes, Close
+    """NAME [REQUESTS]: a recording that reads a name back: Open for reading, Reads of 58 bytes, Close
 
 Without REQUESTS the readable lines are printed; with it the request file is written.
 Behind the end of what is stored a Read brings nothing, so the default length brings all of it. `received` puts the bytes together."""
@@ -113,11 +114,35 @@ A line on standard error says how many bytes came, and whether the Reads met the
     print(f"{name}: {len(data)} bytes, {'all it has' if whole else 'and there may be more: no Read met the end'}", file=sys.stderr)
 
 
+def client_of(given):
+    return controller.Client(given.client, given.netfn, given.cmd)
+
+
+def run_store(given):
+    """NAME FILE CLIENT..: stores a file on a controller: each request is sent by CLIENT, and the session is the one that the Open is given
+
+CLIENT is a program and its words, to which the words of the request are added; it has to print as `ipmitool raw` does:
+    recording.py store /scan/foot foot.bin ipmitool -I lanplus -H HOST -U USER -P PASSWORD raw
+Options stand in front of NAME. All of the file is committed, or nothing: a refusal ends it, and the session is closed. Where the name
+holds more than the file, nothing is committed either, since a Write does not shorten it; --replace deletes the name first (so that a failure after that leaves none)."""
+    files.check_paths([given.file])
+    data = files.read_bytes(given.file, SCAN_SIZE + 1)
+    controller.store(client_of(given), given.name, data, files.called(given.file), given.replace)
+
+
+def run_fetch(given):
+    """NAME FILE CLIENT..: fetches what a controller holds under a name into a file, by CLIENT as for store
+
+Nothing is written unless all of it came."""
+    files.write(given.file, controller.fetch(client_of(given), given.name))
+
+
 def run_to_ipmitool(given):
     """REQUESTS [WORDS]: for each request a line of words for `ipmitool raw`
 
 For example:  recording.py to-ipmitool x.requests | while read -r words; do ipmitool .. raw $words </dev/null 2>&1; done >printed
-The clocks are left out: the controller has its own."""
+The clocks are left out: the controller has its own. The sessions are those of the recording, and not those that its Opens are given there:
+for a controller that somebody else may use, take `store` and `fetch`."""
     files.check_paths([given.requests], given.words)
     lines = ipmitool.word_lines(files.read_bytes(given.requests), files.called(given.requests), given.netfn, given.cmd)
     files.write(given.words, text(lines))
@@ -143,7 +168,8 @@ tells whether it ends there; an empty line ends it too."""
 # What the words of the subcommands stand for.
 MEANINGS = {
     "STORY": "a file of readable lines", "REQUESTS": "a request file, as `blobrun` reads it", "LINES": "a file of lines, as `blobrun` prints them", "NAME": "a name of the store: /scan/..",
-    "FILE": "the file itself", "WORDS": "a file of lines that `ipmitool raw` takes", "PRINTED": "a file of what `ipmitool raw` printed"}
+    "FILE": "the file itself", "WORDS": "a file of lines that `ipmitool raw` takes", "PRINTED": "a file of what `ipmitool raw` printed",
+    "CLIENT": "a program and its words, as `ipmitool .. raw`"}
 
 
 def add(commands, run, *words, **options):
@@ -153,9 +179,9 @@ def add(commands, run, *words, **options):
     parser = commands.add_parser(name, help=summary, description=summary + "\n" + run.__doc__.partition("\n")[2])
     parser.set_defaults(run=run)
     for word in words:
-        optional = word.startswith("[")
-        word = word.strip("[]")
-        parser.add_argument(word.lower(), metavar=word, help=MEANINGS[word], **({"nargs": "?"} if optional else {}))
+        plain = word.strip("[.]")
+        nargs = {"nargs": "?"} if word.startswith("[") else {"nargs": argparse.REMAINDER} if word.endswith("..") else {}
+        parser.add_argument(plain.lower(), metavar=plain, help=MEANINGS[plain], **nargs)
     for option, (kind, default, summary) in options.items():
         if kind is bool:
             parser.add_argument(f"--{option}", action="store_true", help=summary)
@@ -170,13 +196,16 @@ def parser():
     commands = top.add_subparsers(dest="command", required=True, metavar="COMMAND", title="commands (COMMAND --help says more)")
     clock = up_to(0xFFFFFFFF), 0, "the clock of each request"
     session = up_to(0xFFFF), 0, "the session's identifier"
+    replace = bool, False, "delete the name first"
     numbers = {"netfn": (up_to(0xFF), f"0x{ipmitool.NETWORK_FUNCTION:02x}", "the network function"), "cmd": (up_to(0xFF), f"0x{ipmitool.COMMAND:02x}", "the command")}
     add(commands, run_make, "STORY", "REQUESTS")
     add(commands, run_show, "REQUESTS", "LINES")
     add(commands, run_tell, "STORY", "LINES")
-    add(commands, run_upload, "NAME", "FILE", "[REQUESTS]", session=session, clock=clock, replace=(bool, False, "delete the name first"))
+    add(commands, run_upload, "NAME", "FILE", "[REQUESTS]", session=session, clock=clock, replace=replace)
     add(commands, run_download, "NAME", "[REQUESTS]", session=session, clock=clock, length=(up_to(SCAN_SIZE), SCAN_SIZE, "how many bytes are asked for"))
     add(commands, run_received, "REQUESTS", "LINES", "FILE", name=(transfer.checked_name, None, "the name, where Reads of several were recorded"))
+    add(commands, run_store, "NAME", "FILE", "CLIENT..", replace=replace, **numbers)
+    add(commands, run_fetch, "NAME", "FILE", "CLIENT..", **numbers)
     add(commands, run_to_ipmitool, "REQUESTS", "[WORDS]", **numbers).set_defaults(words="-")
     add(commands, run_from_ipmitool, "WORDS", "REQUESTS", clock=clock, **numbers)
     add(commands, run_ipmitool_answers, "PRINTED", "[LINES]").set_defaults(lines="-")

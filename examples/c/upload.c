@@ -56,24 +56,24 @@ static size_t ask(const char *what, uint8_t subcommand, size_t n, uint8_t expect
 static uint16_t open_blob(const char *what, uint16_t flags, const char *name, uint8_t expected)
 {
     must(strlen(name) <= KRAMSNEP_NAME_MOST, name, "too long for a name");
-    put(KRAMSNEP_FLAGS_AT, flags, 2);
+    put(KRAMSNEP_FLAGS_AT, flags, KRAMSNEP_FLAGS_WIDTH);
     memcpy(message + KRAMSNEP_OPEN_NAME_AT, name, strlen(name) + 1);
-    return ask(what, KRAMSNEP_COMMAND_OPEN, KRAMSNEP_OPEN_NAME_AT + strlen(name) + 1, expected) > 0 ? (uint16_t)get(KRAMSNEP_SESSION_AT, 2) : 0;
+    return ask(what, KRAMSNEP_COMMAND_OPEN, KRAMSNEP_OPEN_NAME_AT + strlen(name) + 1, expected) > 0 ? (uint16_t)get(KRAMSNEP_SESSION_AT, KRAMSNEP_SESSION_WIDTH) : 0;
 }
 
 static void on_session(const char *what, uint8_t subcommand, uint16_t session)
 {
-    put(KRAMSNEP_SESSION_AT, session, 2);
-    message[KRAMSNEP_COMMIT_LENGTH_AT] = 0; /* a Commit has this byte behind the session, the others end there */
-    ask(what, subcommand, KRAMSNEP_SESSION_AT + 2 + (subcommand == KRAMSNEP_COMMAND_COMMIT), KRAMSNEP_SUCCESS);
+    put(KRAMSNEP_SESSION_AT, session, KRAMSNEP_SESSION_WIDTH);
+    message[KRAMSNEP_COMMIT_LENGTH_AT] = 0; /* a Commit has this byte behind the session; Close and SessionStat end there */
+    ask(what, subcommand, subcommand == KRAMSNEP_COMMAND_COMMIT ? KRAMSNEP_COMMIT_REQUEST_LEAST : KRAMSNEP_CLOSE_REQUEST_SIZE, KRAMSNEP_SUCCESS);
 }
 
 static void write_all(uint16_t session, const char *bytes, size_t n)
 {
     for (size_t at = 0, part; at < n; at += part) {
         part = n - at < KRAMSNEP_WRITE_MOST ? n - at : KRAMSNEP_WRITE_MOST;
-        put(KRAMSNEP_SESSION_AT, session, 2);
-        put(KRAMSNEP_OFFSET_AT, (uint32_t)at, 4);
+        put(KRAMSNEP_SESSION_AT, session, KRAMSNEP_SESSION_WIDTH);
+        put(KRAMSNEP_OFFSET_AT, (uint32_t)at, KRAMSNEP_OFFSET_WIDTH);
         memcpy(message + KRAMSNEP_WRITE_DATA_AT, bytes + at, part);
         ask("write", KRAMSNEP_COMMAND_WRITE, KRAMSNEP_WRITE_DATA_AT + part, KRAMSNEP_SUCCESS);
     }
@@ -84,10 +84,10 @@ static size_t read_all(uint16_t session, char bytes[KRAMSNEP_SLOT_SIZE])
 {
     size_t at = 0, part = KRAMSNEP_READ_MOST;
     while (part == KRAMSNEP_READ_MOST) {
-        put(KRAMSNEP_SESSION_AT, session, 2);
-        put(KRAMSNEP_OFFSET_AT, (uint32_t)at, 4);
-        put(KRAMSNEP_READ_COUNT_AT, KRAMSNEP_READ_MOST, 4);
-        part = ask("read", KRAMSNEP_COMMAND_READ, KRAMSNEP_READ_COUNT_AT + 4, KRAMSNEP_SUCCESS) - KRAMSNEP_READ_DATA_AT;
+        put(KRAMSNEP_SESSION_AT, session, KRAMSNEP_SESSION_WIDTH);
+        put(KRAMSNEP_OFFSET_AT, (uint32_t)at, KRAMSNEP_OFFSET_WIDTH);
+        put(KRAMSNEP_READ_COUNT_AT, KRAMSNEP_READ_MOST, KRAMSNEP_READ_COUNT_WIDTH);
+        part = ask("read", KRAMSNEP_COMMAND_READ, KRAMSNEP_READ_REQUEST_SIZE, KRAMSNEP_SUCCESS) - KRAMSNEP_READ_DATA_AT;
         must(part <= KRAMSNEP_SLOT_SIZE - at, "read", "more than a scan can have");
         memcpy(bytes + at, answer + KRAMSNEP_READ_DATA_AT, part);
         at += part;
@@ -129,13 +129,13 @@ int main(int count, char **words)
     must(kramsnep_running_job_in(&memory) == KRAMSNEP_BLOB_VERIFY, "commit", "no verify job runs"); /* here the image is verified */
     job_outcome("job outcome that is no verdict", 2, KRAMSNEP_INVALID);
     job_outcome("job outcome", KRAMSNEP_VERDICT_GOOD, KRAMSNEP_SUCCESS);
-    must(kramsnep_running_job_in(&memory) == -1, "job outcome", "the job still runs");
+    must(kramsnep_running_job_in(&memory) == KRAMSNEP_NO_JOB, "job outcome", "the job still runs");
     on_session("session stat", KRAMSNEP_COMMAND_SESSION_STAT, session);
-    must((get(KRAMSNEP_STATE_AT, 2) & KRAMSNEP_STATE_COMMITTED) != 0, "session stat", "the job did not succeed");
+    must((get(KRAMSNEP_STATE_AT, KRAMSNEP_STATE_WIDTH) & KRAMSNEP_STATE_COMMITTED) != 0, "session stat", "the job did not succeed");
     on_session("close", KRAMSNEP_COMMAND_CLOSE, session);
-    must(memory.control[KRAMSNEP_CONTROL_PHASE] == KRAMSNEP_VERIFIED, "close", "the image is not verified");
+    must(memory.control[KRAMSNEP_CONTROL_PHASE] == KRAMSNEP_PHASE_VERIFIED, "close", "the image is not verified");
 
-    memory.control[KRAMSNEP_CONTROL_PHASE] = KRAMSNEP_VERIFIED + 1;
+    memory.control[KRAMSNEP_CONTROL_PHASE] = KRAMSNEP_PHASE_VERIFIED + 1;
     job_outcome("damaged control block, and no verdict", 2, KRAMSNEP_NOT_SOUND);
     return 0;
 }

@@ -2,11 +2,11 @@
 """Runs the library behind ipmi_sim, has real clients ask it, and compares every byte that comes back. Called by run.sh.
 
 drive.py MODULE [STORY]    MODULE: the module, built; STORY: story.txt beside this file, if none is named
+drive.py MODULE --serve    a controller to be asked by hand, until it is interrupted
 
 First the story: each of its lines is a request and what must come back, as the rules of docs/PROTOCOL.md say it. Then the recordings
 examples/*.requests, each to a fresh controller; what must come back is examples/*.lines, as the second implementation answered; and, where
-the second implementation is built, random requests that it answers too. Last a file is stored and fetched by the lines that tools/recording.py
-makes for ipmitool and reads of what it prints."""
+the second implementation is built, random requests that it answers too. Last files are stored and fetched by tools/recording.py and ipmitool."""
 import contextlib
 import pathlib
 import random
@@ -247,38 +247,75 @@ def recording(folder, *words):
     return done.stdout
 
 
-def transfer(module, folder):
-    """Number of requests that stored a file and fetched it again, whole."""
-    folder = pathlib.Path(folder)
-    data = random.Random(3).randbytes(500)
-    (folder / "file").write_bytes(data)
+def administrator(port):
+    """The words of ipmitool, up to those of the request."""
+    return [*IPMITOOL, "-p", str(port), "-I", "lanplus", "-C", "3", "-U", "admin", "raw"]
+
+
+def same_file(folder):
+    if (folder / "back").read_bytes() != (folder / "file").read_bytes():
+        raise Failed("the file that came back is another")
+
+
+def by_lines(folder, port):
+    """A file stored and fetched by lines that are made beforehand: the sessions are 0 and 1, since nobody else asks."""
     recording(folder, "upload", "/scan/foot", "file", "up")
     recording(folder, "download", "/scan/foot", "down", "--session", "1", "--length", "600")
     (folder / "all").write_bytes((folder / "up").read_bytes() + (folder / "down").read_bytes())
-    asked = recording(folder, "to-ipmitool", "all").splitlines()
-    with controller(module, folder) as (port, _), open(folder / "printed", "w", encoding="utf-8") as printed:
-        for words in asked:
-            done = run([*IPMITOOL, "-p", str(port), "-I", "lanplus", "-C", "3", "-U", "admin", "raw", *words.split()])
+    with open(folder / "printed", "w", encoding="utf-8") as printed:
+        for words in recording(folder, "to-ipmitool", "all").splitlines():
+            done = run([*administrator(port), *words.split()])
             printed.write(done.stdout + done.stderr)
     recording(folder, "ipmitool-answers", "printed", "lines")
     recording(folder, "received", "all", "lines", "back")
-    if (folder / "back").read_bytes() != data:
-        raise Failed("the file that came back is another")
-    return len(asked)
+    same_file(folder)
+
+
+def by_requests(folder, port):
+    """A file stored and fetched request by request, while another client has a session."""
+    story = Story(port, None)
+    for line in ("by ipmitool", "open /scan/other 0003 -> 00 session 2", "write 2 0 'another foot' -> 00"):
+        story.step(line)
+    recording(folder, "store", "--replace", "/scan/foot", "file", *administrator(port))
+    recording(folder, "fetch", "/scan/foot", "back", *administrator(port))
+    same_file(folder)
+    story.step("read 2 0 58 -> 00 bytes 'another foot'")
+
+
+def transfer(module, folder):
+    """Files through tools/recording.py and ipmitool."""
+    folder = pathlib.Path(folder)
+    (folder / "file").write_bytes(random.Random(3).randbytes(500))
+    with controller(module, folder) as (port, _):
+        by_lines(folder, port)
+        by_requests(folder, port)
+
+
+def serve(module, folder):
+    """A controller, until this process is ended."""
+    with controller(module, folder) as (port, flash):
+        flash.parent.mkdir()
+        print(f"ipmi: a controller listens on 127.0.0.1, port {port}, until this is interrupted. To ask it how many blobs there are:", flush=True)
+        print(f"  ipmitool -I lanplus -C 3 -H 127.0.0.1 -p {port} -U admin -P secret raw 0x2e 0x80 0xcf 0xc2 0x00 0x00", flush=True)
+        signal.pause()
 
 
 def main():
-    module, story = pathlib.Path(sys.argv[1]).resolve(), pathlib.Path(sys.argv[2]) if sys.argv[2:] else HERE / "story.txt"
+    module, asked = pathlib.Path(sys.argv[1]).resolve(), sys.argv[2:]
+    story = pathlib.Path(asked[0]) if asked else HERE / "story.txt"
     signal.signal(signal.SIGTERM, lambda *_: sys.exit(1))  # so that the simulator is ended then too
     part = story.name
     with tempfile.TemporaryDirectory() as folder:
         try:
+            if asked == ["--serve"]:
+                serve(module, folder)
             print(f"ipmi: {part}: {tell(story, module, folder)} requests answered as expected", flush=True)
             for name, requests, lines in replays():
                 part = name
                 print(f"ipmi: {name}: {replay(requests, lines, module, folder)} requests answered as expected", flush=True)
-            part = "a file by recording.py and ipmitool"
-            print(f"ipmi: {part}: stored and fetched by {transfer(module, folder)} requests", flush=True)
+            part = "files by recording.py and ipmitool"
+            transfer(module, folder)
+            print(f"ipmi: {part}: stored and fetched, another client's session left alone", flush=True)
         except Failed as fault:
             sys.exit(f"ipmi: FAILED: {part}: {fault}")
 

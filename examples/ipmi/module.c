@@ -20,7 +20,7 @@
 #include "kramsnep.h"
 #include "sha256.h"
 
-enum { BLOB_NETFN = 0x2E, BLOB_COMMAND = 0x80, MEDIUM_LAN = 4 };
+enum { MEDIUM_LAN = 4 };
 
 static struct kramsnep_memory memory; /* zero: the fresh state */
 static sys_data_t *simulator;
@@ -90,7 +90,7 @@ static int handle_message(channel_t *channel, msg_t *message)
 {
     static const uint8_t nothing[1];
     uint8_t response[1 + KRAMSNEP_ANSWER_SIZE];
-    if (message->netfn != BLOB_NETFN || message->cmd != BLOB_COMMAND)
+    if (message->netfn != KRAMSNEP_IPMI_NETFN || message->cmd != KRAMSNEP_IPMI_COMMAND)
         return next_handler[channel->channel_num](channel, message);
     const uint8_t *request = message->len > 0 ? message->data : nothing; /* the library takes no null pointer, not even to no bytes */
     uint32_t result = kramsnep_respond_in(&memory, request, message->len, clock_seconds(), response + 1);

@@ -4,8 +4,13 @@
 # so and ends with 0: nothing was tested. First `rt staticlib capi`, and `tools/peers.sh` for the programs.
 #
 #   examples/ipmi/run.sh [STORY]     CC, CFLAGS and LDFLAGS are those of the module
+#   examples/ipmi/run.sh --serve     starts a controller to be asked by hand, and ends it when it is interrupted
 set -eu
-[ $# -eq 0 ] || { story=$(realpath "$1") && set -- "$story"; }
+case "$#${1:-}" in
+0 | 1--serve) ;;
+1-* | [!1]*) sed -n '2,8s/^# \{0,1\}//p' "$0" >&2; exit 1 ;;
+*) story=$(realpath "$1") && set -- "$story" ;;
+esac
 cd "$(dirname "$0")/../.."
 PATH=$PATH:/usr/sbin # an ordinary user's path may lack it, and ipmi-raw is there
 for peer in ipmi_sim ipmitool ipmi-raw; do

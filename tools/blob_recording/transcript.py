@@ -14,6 +14,7 @@ CODES = {
 STATE_BITS = ["open for reading", "open for writing", "job running", "committed", "job failed"]
 # how many bytes the fields of an accepted request's response have (rule 3.5); a name and the data of a Read vary
 RESPONSE_SIZES = {"count": 4, "open": 2, "stat": 7, "sessionstat": 7, "write": 0, "commit": 0, "close": 0, "delete": 0, "writemeta": 0}
+ON_SESSION = {"read", "write", "commit", "close", "sessionstat"}
 LINE = re.compile("CUT|([0-9A-F]{2})(?: ((?:[0-9A-F]{2})+))?")
 
 # A record and its line. For a cut record the clock is None and the message is what is left; the code is None with it. The name and the fields
@@ -76,7 +77,7 @@ def stat_in_words(fields):
     """State, size and metadata length (rule 15.3)."""
     state = number(fields[:2])
     metadata = f", metadata length {fields[6]}" if fields[6] else ""
-    return f"state {state:x}: {state_in_words(state)}; size {number(fields[2:6])}{metadata}"
+    return f"state {state:04x}: {state_in_words(state)}; size {number(fields[2:6])}{metadata}"
 
 
 def counted(count, what):
@@ -108,17 +109,29 @@ def answered(one):
 
 def show(data, lines, source):
     """A line in words for each request."""
-    for one in exchanges(data, lines, source):
-        if one.clock is None:
-            yield f"{'':10} a cut record of {len(one.message)} bytes -> CUT"
-        else:
-            yield f"{one.clock:10} {story.asked(one.message)} -> {answered(one)}"
+    for one, said in told(exchanges(data, lines, source)):
+        yield f"{'':10} a cut record of {len(one.message)} bytes -> CUT" if one.clock is None else f"{one.clock:10} {story.asked(one.message)} -> {said}"
+
+
+def told(all_exchanges):
+    """Each exchange with its answer in words. A request that was accepted on a session which no Open of the recording was given is pointed out:
+    it met a session of somebody else."""
+    opened = set()
+    for one in all_exchanges:
+        said = answered(one) if one.clock is not None else ""
+        if one.code == 0 and one.name == "open":
+            opened.add(number(one.fields))
+        elif one.code == 0 and one.name in ON_SESSION:
+            session = number(messages.unframed(one.message)[1][:2])
+            said += "" if session in opened else f" (but no Open here was given session {session})"
+            opened -= {session} if one.name == "close" else set()
+        yield one, said
 
 
 def tell(asked, made, lines, source):
     """The readable lines of a recording with the answer behind each request, comments kept; `made` is the request file that the lines stand for."""
-    answers = iter(list(exchanges(made, lines, source)))
+    answers = [said for _, said in told(exchanges(made, lines, source))]
     for line in asked:
         words, end = story.words_and_end(line)
-        said = f"{line[:end].rstrip()} -> {answered(next(answers))}" if words else ""
+        said = f"{line[:end].rstrip()} -> {answers.pop(0)}" if words else ""
         yield "  ".join(filter(None, [said, line[end:]]))

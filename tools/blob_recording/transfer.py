@@ -16,24 +16,35 @@ def checked_name(name):
     return name
 
 
-def upload(name, data, source, session=0, clock=0, replace=False):
-    """Lines that store the bytes under a name: Open for writing, Writes, Commit, Close."""
+def check_size(data, source):
+    """Refuses more bytes than a name holds."""
     if len(data) > messages.SCAN_SIZE:
         raise Fault(f"longer than the {messages.SCAN_SIZE} bytes that a name holds", source)
-    lines = [f"delete {name}"] if replace else []
-    lines.append(f"open {checked_name(name)} {READ_WRITE}")
+
+
+def write_lines(data, session):
+    """The Writes of all bytes, one behind the other."""
     for at in range(0, len(data), messages.WRITE_MOST):
-        lines.append(f"write {session} {at} {story.shown_data(data[at:at + messages.WRITE_MOST])}")
-    lines += [f"commit {session}", f"close {session}"]
+        yield f"write {session} {at} {story.shown_data(data[at:at + messages.WRITE_MOST])}"
+
+
+def read_lines(length, session):
+    """The Reads of that many bytes."""
+    for at in range(0, length, messages.READ_MOST):
+        yield f"read {session} {at} {min(messages.READ_MOST, length - at)}"
+
+
+def upload(name, data, source, session=0, clock=0, replace=False):
+    """Lines that store the bytes under a name: Open for writing, Writes, Commit, Close."""
+    check_size(data, source)
+    lines = [f"delete {name}"] if replace else []
+    lines += [f"open {checked_name(name)} {READ_WRITE}", *write_lines(data, session), f"commit {session}", f"close {session}"]
     return [f"{clock} {line}" for line in lines]
 
 
 def download(name, length=messages.SCAN_SIZE, session=0, clock=0):
     """Lines that read the first bytes of a name, by default as many as it can hold: Open for reading, Reads, Close."""
-    lines = [f"open {checked_name(name)} {READ_ONLY}"]
-    for at in range(0, length, messages.READ_MOST):
-        lines.append(f"read {session} {at} {min(messages.READ_MOST, length - at)}")
-    lines.append(f"close {session}")
+    lines = [f"open {checked_name(name)} {READ_ONLY}", *read_lines(length, session), f"close {session}"]
     return [f"{clock} {line}" for line in lines]
 
 

@@ -66,14 +66,15 @@ pub record Responded : Type 0 where
 abbrev pub respondedWith : Served → Responded
 respondedWith v = record { code = v .code; len = v .len; memory = memoryOf (v .state); answer = v .answer }
 
--- THE C FUNCTION `kramsnep_respond`: the library's answer, where the control block's words are one; else FF, and all is as found
+-- THE C FUNCTION `kramsnep_respond`: the library's answer, where the control block's words are one; else FF, and all is as found (rule 5.13)
 unfoldable pub responded : ℕ → List ℕ → Memory → List ℕ → Responded
 responded t m l a = cond (controlFits (l .control)) (respondedWith (served t m (stateIn l) a)) (record { code = notSound; len = 0; memory = l; answer = a })
 
--- a result holds the completion code in its lowest byte, and the response length above it
+-- a result holds the completion code in its lowest byte, and the response length above it (rule 19.4)
 abbrev pub codeUnit : ℕ
 codeUnit = 256
 
+-- what such a result says, with what was lent (rule 19.4)
 abbrev pub resultOf : ℕ → Memory → List ℕ → Responded
 resultOf r l a = record { code = r % codeUnit; len = r / codeUnit; memory = l; answer = a }
 
@@ -100,7 +101,7 @@ jobGood = 1
 abbrev pub isVerdict : (verdict : ℕ) → Bool
 isVerdict v = eqb v jobFailed || eqb v jobGood
 
--- THE C FUNCTION `kramsnep_job_outcome`: FF without a control block or a sound state; then CC for a verdict that is none; then what the library answers (rule 17.1)
+-- THE C FUNCTION `kramsnep_job_outcome`: FF without a control block or a sound state; then CC for a verdict that is none; then what the library answers (rules 5.13 and 17.1)
 unfoldable pub reported : (verdict : ℕ) → Memory → Reported
 reported v l =
     cond (controlFits (l .control) && isSound (stateIn l))

@@ -36,7 +36,7 @@ nextAt = 38
 abbrev pub lastSweepAt : ℕ
 lastSweepAt = 39
 
--- 0 Idle, 1 Uploading, 2 Verified
+-- 0 Idle, 1 Uploading, 2 Verified (rule 5.12)
 abbrev pub phaseNumber : Phase → ℕ
 phaseNumber Idle = 0
 phaseNumber Uploading = 1
@@ -46,11 +46,11 @@ phaseNumber Verified = 2
 abbrev pub phaseOf : ℕ → Phase
 phaseOf n = cond (eqb n 0) Idle (cond (eqb n 1) Uploading Verified)
 
--- the words are a control block: their number is right, and the phase is one
+-- the words are a control block: their number is right, and the phase is one (rule 5.13)
 unfoldable pub controlFits : List ℕ → Bool
 controlFits w = eqb (length w) controlSize && leb (getD w phaseAt 0) (phaseNumber Verified)
 
--- the control block that words are
+-- the control block that words are (rule 5.12)
 unfoldable pub controlOf : List ℕ → Control
 controlOf w = record {
   rows = getD w 0 0;
@@ -65,7 +65,7 @@ controlOf w = record {
   «last_sweep» = getD w lastSweepAt 0;
 }
 
--- the words that a control block is
+-- the words that a control block is (rule 5.12)
 unfoldable pub wordsOf : Control → List ℕ
 wordsOf c =
     c .rows ∷ c .slots ∷ c .marks ∷ (c .«committed_len» ++ (c .«staged_len» ++ (phaseNumber (c .phase) ∷ c .«image_len» ∷ c .«hash_len» ∷ c .next ∷ c .«last_sweep» ∷ [])))
