@@ -3,10 +3,11 @@
 
 header.py --check    needs a C compiler (CC, or cc); C++ is tried where there is a compiler for it (CXX, or c++)
 
-- It compiles alone, as C99 and as C++11, without a warning; and so does the handler of docs/HOOKING.md.
+- It compiles alone, as C99 and as C++11, and twice in one file, without a warning; and so does the handler of docs/HOOKING.md. C++ links its functions as those of C.
+- Its two functions have the parameters of the proved ones, in their order. The functions over the struct hand each part of it on under its own length.
 - Each of its numbers is the value of the definition that NUMBERS names for it, in the specs and, where the code has the number too, in the code; no number of the header is
   without a definition, and no number of Numbers.antt is missing that a client needs.
-- The table of requests and responses in its comment is that of Decode.antt and of the replies. Names, OEM bytes and version are those of Names.antt, of Numbers.antt and of the
+- The table of requests and responses in its comment is that of Decode.antt and of the replies; so are the numbers in the comments on frame, control block and rows. Names, OEM bytes and version are those of Names.antt, of Numbers.antt and of the
   first entry of docs/CHANGELOG.md.
 - kramsnep_crc gives the worked values and what Python's own CRC gives; kramsnep_running_job and the macros with an argument give what the layout of a row and of a result says.
 
@@ -210,11 +211,11 @@ def compiler():
     return os.environ.get("CC", "cc").split()
 
 
-def run_c(body):
-    """What a C program prints whose main has this body."""
+def run_c(body, before=""):
+    """What a C program prints whose main has this body, with this text in front of it."""
     with tempfile.TemporaryDirectory() as folder:
         source, program = pathlib.Path(folder, "main.c"), pathlib.Path(folder, "main")
-        source.write_text(f'#include <stdio.h>\n#include "kramsnep.h"\nint main(void)\n{{\n{body}\n    return 0;\n}}\n', encoding="ascii")
+        source.write_text(f'#include <stdio.h>\n#include "kramsnep.h"\n{before}\nint main(void)\n{{\n{body}\n    return 0;\n}}\n', encoding="ascii")
         subprocess.run([*compiler(), "-std=c99", *STRICT, f"-I{HEADER.parent}", str(source), "-o", str(program)], check=True)
         return subprocess.run([str(program)], capture_output=True, text=True, check=True).stdout
 
@@ -238,10 +239,77 @@ def alone():
         if not shutil.which(words[0]):
             print(f"header, alone: {language} was not tried, {words[0]} is not installed")
             continue
-        done = subprocess.run([*words, "-x", "c" if language == "C" else "c++", f"-std={standard}", *STRICT, "-fsyntax-only", "-"], input=f'#include "{HEADER}"\n',
+        done = subprocess.run([*words, "-x", "c" if language == "C" else "c++", f"-std={standard}", *STRICT, "-fsyntax-only", "-"], input=f'#include "{HEADER}"\n' * 2,
                               capture_output=True, text=True, check=False)
         faults += [f"as {standard}:\n{done.stderr}"] if done.returncode else []
+        faults += linked_from(words) if language == "C++" else []
     return faults
+
+
+def linked_from(compiler_of_cpp):
+    """C++ finds the two functions under their C names."""
+    with tempfile.TemporaryDirectory() as name:
+        folder = pathlib.Path(name)
+        (folder / "stub.c").write_text(STUBS, encoding="ascii")
+        (folder / "main.cpp").write_text('#include "kramsnep.h"\nint main() { static kramsnep_memory m; return (int)(kramsnep_respond_in(&m, m.names, 0, 0, m.hash) + kramsnep_job_outcome_in(&m, 0)); }\n', encoding="ascii")
+        subprocess.run([*compiler(), "-c", f"-I{HEADER.parent}", "stub.c"], cwd=folder, check=True)
+        done = subprocess.run([*compiler_of_cpp, f"-I{HEADER.parent}", "main.cpp", "stub.o", "-o", "main"], cwd=folder, capture_output=True, text=True, check=False)
+    return [f"from C++: {done.stderr}"] if done.returncode else []
+
+
+def prototypes():
+    """The two functions of the header have the parameters that the proved functions have."""
+    faults, code, text = [], text_of("capi/src/lib.rt"), HEADER.read_text(encoding="ascii")
+    for function, listed in re.findall(r'(?ms)^pub extern "C" fn (\w+)\((.*?)^\) -> u32$', code):
+        wanted = []
+        for name, kind in re.findall(r"(\w+): ([^,]+),", listed):
+            slice_of = re.fullmatch(r"&(mut )?\[(u\d+)\]", kind)
+            wanted.append(f"{'' if slice_of.group(1) else 'const '}{slice_of.group(2).replace('u', 'uint')}_t *{name}, size_t {name}_len" if slice_of else f"{kind.replace('u', 'uint')}_t {name}")
+        found = re.search(rf"(?ms)^uint32_t {function}\((.*?)\);", text)
+        if not found or " ".join(found.group(1).split()) != ", ".join(wanted):
+            faults.append(f"{function} has the parameters {', '.join(wanted)}")
+    return faults + ([] if len(re.findall(r"(?m)^uint32_t kramsnep_\w+\(", text)) == 2 else ["there are two functions"])
+
+
+# Stand-ins for the two functions: they print what they are given, buffers by their place in `lent`.
+STUBS = r"""
+#include <stddef.h>
+#include <stdio.h>
+#include "kramsnep.h"
+const char *lent;
+#define PLACE(p) (long)((const char *)(p) - lent)
+uint32_t kramsnep_respond(const uint8_t *a, size_t b, uint32_t c, uint32_t *d, size_t e, uint32_t *f, size_t g, uint8_t *h, size_t i, uint8_t *j, size_t k,
+                          uint8_t *l, size_t m, uint8_t *n, size_t o, uint8_t *p, size_t q, uint8_t *r, size_t s)
+{
+    printf("%u %zu %u ", a[0], b, c);
+    printf("%ld %zu %ld %zu %ld %zu %ld %zu %ld %zu %ld %zu %ld %zu ", PLACE(d), e, PLACE(f), g, PLACE(h), i, PLACE(j), k, PLACE(l), m, PLACE(n), o, PLACE(p), q);
+    printf("%u %zu\n", r[0], s);
+    return 77;
+}
+uint32_t kramsnep_job_outcome(uint32_t v, const uint32_t *d, size_t e, uint32_t *f, size_t g, const uint8_t *h, size_t i, const uint8_t *j, size_t k,
+                              const uint8_t *l, size_t m, const uint8_t *n, size_t o, const uint8_t *p, size_t q)
+{
+    printf("%u %ld %zu %ld %zu %ld %zu %ld %zu %ld %zu %ld %zu %ld %zu\n", v, PLACE(d), e, PLACE(f), g, PLACE(h), i, PLACE(j), k, PLACE(l), m, PLACE(n), o, PLACE(p), q);
+    return 88;
+}
+"""
+
+
+def in_one_place():
+    """The functions over the struct hand on request, clock, verdict and answer as they are, and each part of the struct with its length; the struct has nothing else."""
+    known = definitions()
+    regions = known["slotCount"] * known["slotSize"]
+    counts = [known["controlSize"], known["rowCount"] * known["rowWords"], known["slotCount"] * known["nameSize"], regions, regions, known["imageSize"], known["hashSize"]]
+    buffers, at = [], 0
+    for count, width in zip(counts, (4, 4, 1, 1, 1, 1, 1)):
+        buffers += [at, count]
+        at += count * width
+    body = ["    static struct kramsnep_memory m;", "    uint8_t request[3] = {11, 12, 13}, answer[KRAMSNEP_ANSWER_SIZE] = {21};", "    lent = (const char *)&m;",
+            '    printf("%u\\n", kramsnep_respond_in(&m, request, 3, 4000000000u, answer));', '    printf("%u\\n", kramsnep_job_outcome_in(&m, 5));', '    printf("%zu\\n", sizeof m);',
+            "    m.control[KRAMSNEP_CONTROL_ROWS] = 2; m.table[5] = KRAMSNEP_BLOB_UPDATE; m.table[6] = 0x10002;", '    printf("%d\\n", kramsnep_running_job_in(&m));']
+    found = [[int(word) for word in line.split()] for line in run_c("\n".join(body), STUBS).splitlines()]
+    wanted = [[11, 3, 4000000000, *buffers, 21, known["answerSize"]], [77], [5, *buffers], [88], [at], [known["updateBlob"]]]
+    return [f"handed on: {one}, not {other}" for one, other in zip(found, wanted) if one != other]
 
 
 def hooking():
@@ -321,33 +389,71 @@ def table():
     return faults + ([] if len(found) == len(wanted) else [f"{len(found)} rows of subcommands, not {len(wanted)}"])
 
 
+def comments():
+    """The numbers in the comments on frame, control block and rows are those of the definitions."""
+    known = definitions()
+    lens, staged, slots = known["committedLensAt"], known["stagedLensAt"], known["slotCount"]
+    wanted = [
+        f"0-{len(known['oem']) - 1}   OEM number 49871: {known['oem'].hex(' ').upper()}", f"{known['subcommand']}     subcommand;", f"{known['headerSize']}-{known['fieldsAt'] - 1}   CRC of the fields", f"{known['fieldsAt']}-    fields",
+        f"{known['word.rows']}       mask of session rows in use", f"{known['word.slots']}       mask of store slots in use", f"{known['word.marks']}       mask of slots that are committed",
+        f"{lens}-{lens + slots - 1}    committed length of each slot", f"{staged}-{staged + slots - 1}   staged length of each slot",
+        f"{known['phaseAt']}      phase of the flash: {known['phaseNumber.Idle']} Idle, {known['phaseNumber.Uploading']} Uploading, {known['phaseNumber.Verified']} Verified",
+        f"{known['imageLenAt']}, {known['hashLenAt']}  length of the image, of the hash", f"{known['nextAt']}      next session identifier", f"{known['lastSweepAt']}      clock of the last sweep",
+        f"{known['idOf']}  identifier", f"{known['blobOf']}  blob: 0 to {slots - 1} are store slots, {known['imageBlob']} to {known['cleanupBlob']} the flash names below",
+        f"{known['wordOf']}  open flags in bits 0-15, job status in bits {known['statusUnit'].bit_length() - 1}-{known['statusUnit'].bit_length()}, clean (nothing written since the last commit) in bit {known['cleanUnit'].bit_length() - 1}",
+        f"{known['stampOf']}  stamp: the clock of the session's last use"]
+    lines = [line.removeprefix(" *   ") for line in HEADER.read_text(encoding="ascii").splitlines()]
+    return [f"no comment says: {one}" for one in wanted if not any(line.startswith(one) for line in lines)]
+
+
 def crc():
     """The worked values of Worked.antt, which the comment says too, and random bytes against Python's own CRC."""
     worked = re.findall(r"crc (\[\]|\([^)]*\)) ≡ (0x\w+)", text_of("crc/specs/Worked.antt"))
     wanted = [(bytes(int(byte, 16) for byte in re.findall(r"0x(\w\w)", said)), int(result, 16)) for said, result in worked]
     chance = random.Random(20261116)
-    wanted += [(data, binascii.crc_hqx(data, spec_values()["start"])) for data in (chance.randbytes(chance.randrange(1, 65)) for _ in range(200))]
-    body = "\n".join(f"    {{ const uint8_t b[] = {{{', '.join(map(str, data)) or '0'}}}; printf(\"%u\\n\", kramsnep_crc(b, {len(data)})); }}" for data, _ in wanted)
+    lengths = [*range(1, 130), 255, 256, 257, 1000, 4096, 5000]
+    wanted += [(data, binascii.crc_hqx(data, spec_values()["start"])) for data in map(chance.randbytes, lengths)]
+    wanted.append((b"", spec_values()["start"]))
+    body = "\n".join(f"    {{ const uint8_t b[] = {{{', '.join(map(str, data))}}}; printf(\"%u\\n\", kramsnep_crc(b, {len(data)})); }}" if data else '    printf("%u\\n", kramsnep_crc(NULL, 0));'
+                     for data, _ in wanted)
     faults = [f"the CRC of {data.hex()} is {found}, not {right}" for (data, right), found in zip(wanted, map(int, run_c(body).split())) if found != right]
     said = f"123456789 give 0x{wanted[0][1]:04X}, no bytes 0x{wanted[1][1]:04X}"
     return faults + ([] if said in HEADER.read_text(encoding="ascii") else [f"the header's comment does not say: {said}"])
 
 
-def jobs():
-    """The running job of tables with one row: in use or not, each blob, each status."""
-    known, wanted, none, body = definitions(), [], printed(["NO_JOB"])["NO_JOB"], ["    uint32_t control[KRAMSNEP_CONTROL_WORDS] = {0}, table[KRAMSNEP_TABLE_WORDS] = {0};"]
-    for row in (0, 7, known["rowCount"] - 1):
-        at = row * known["rowWords"]
-        for blob in (0, known["imageBlob"], known["verifyBlob"], known["updateBlob"], known["cleanupBlob"], known["cleanupBlob"] + 1):
+def running_job(known, mask, rows, none):
+    """The blob of the lowest row in use whose job runs, by the layout of a row; rows are (blob, status)."""
+    runs = [blob for at, (blob, status) in enumerate(rows[:known["rowCount"]]) if mask >> at & 1 and status == known["running"] and blob in (known["verifyBlob"], known["updateBlob"])]
+    return runs[0] if runs else none
+
+
+def tables(known, chance):
+    """(mask, rows): each row alone, with each blob and status, in use or not; then rows of all kinds at once. One row stands behind the table, and must not be read."""
+    blobs = [0, known["imageBlob"], known["verifyBlob"], known["updateBlob"], known["cleanupBlob"], known["cleanupBlob"] + 1]
+    behind = known["verifyBlob"], known["running"]
+    for row in range(known["rowCount"]):
+        for blob in blobs:
             for status in range(4):
-                for mask in (0, 1 << row, 0xFFFF & ~(1 << row)):
-                    runs = mask == 1 << row and status == known["running"] and blob in (known["verifyBlob"], known["updateBlob"])
-                    wanted.append(blob if runs else none)
-                    word = known["writeOnly"] + status * known["statusUnit"]
-                    body.append(f"    control[{known['word.rows']}] = {mask}u; table[{at + known['blobOf']}] = {blob}; table[{at + known['wordOf']}] = {word}u;")
-                    body.append('    printf("%d\\n", kramsnep_running_job(control, table));')
-        body.append(f"    table[{at + known['wordOf']}] = 0;")
-    found = list(map(int, run_c("\n".join(body)).split()))
+                rows = [(0, 0)] * row + [(blob, status)] + [(0, 0)] * (known["rowCount"] - row - 1) + [behind]
+                yield from ((mask, rows) for mask in (0, 1 << row, 0xFFFFFFFF & ~(1 << row)))
+    for _ in range(300):
+        yield chance.getrandbits(32), [(chance.choice(blobs), chance.randrange(4)) for _ in range(known["rowCount"])] + [behind]
+
+
+def jobs():
+    """The running job of these tables."""
+    known, none = definitions(), printed(["NO_JOB"])["NO_JOB"]
+    tried = list(tables(known, random.Random(7)))
+    words, wanted = [], [running_job(known, mask, rows, none) for mask, rows in tried]
+    for mask, rows in tried:
+        lent = [0] * ((known["rowCount"] + 1) * known["rowWords"])
+        for at, (blob, status) in enumerate(rows):
+            lent[at * known["rowWords"] + known["blobOf"]], lent[at * known["rowWords"] + known["wordOf"]] = blob, known["writeOnly"] + status * known["statusUnit"]
+        words.append(f"{{{mask}u, {', '.join(f'{word}u' for word in lent)}}}")
+    table = f"static const uint32_t tried[][1 + {len(lent)}] = {{{', '.join(words)}}};"
+    body = ["    uint32_t control[KRAMSNEP_CONTROL_WORDS] = {0};", f"    for (int i = 0; i < {len(tried)}; i++) {{", f"        control[{known['word.rows']}] = tried[i][0];",
+            '        printf("%d\\n", kramsnep_running_job(control, tried[i] + 1));', "    }"]
+    found = list(map(int, run_c("\n".join(body), table).split()))
     return [f"kramsnep_running_job, try {i}: {one}, not {other}" for i, (one, other) in enumerate(zip(found, wanted)) if one != other]
 
 
@@ -357,8 +463,8 @@ def parts():
     words = [k * known["statusUnit"] + d for k in range(1, 9) for d in (-1, 0)]
     results = [code + known["codeUnit"] * length for code in (known["success"], known["notSound"]) for length in (0, 1, known["answerSize"])]
     wanted = [word // known["statusUnit"] % 4 for word in words] + [part for result in results for part in (result % known["codeUnit"], result // known["codeUnit"])]
-    body = [f'    printf("%u\\n", (unsigned)KRAMSNEP_JOB_STATUS({word}u));' for word in words]
-    body += [f'    printf("%u %u\\n", (unsigned)KRAMSNEP_CODE({result}u), (unsigned)KRAMSNEP_LENGTH({result}u));' for result in results]
+    body = [f'    printf("%u\\n", (unsigned)KRAMSNEP_JOB_STATUS({word}u & 0xFFFFFFFFu));' for word in words]
+    body += [f'    printf("%u %u\\n", (unsigned)KRAMSNEP_CODE({result}u | 0u), (unsigned)KRAMSNEP_LENGTH({result}u & 0xFFFFFFFFu));' for result in results]
     found = list(map(int, run_c("\n".join(body)).split()))
     return [] if found == wanted else [f"KRAMSNEP_JOB_STATUS, KRAMSNEP_CODE and KRAMSNEP_LENGTH give {found}, not {wanted}"]
 
@@ -374,7 +480,7 @@ def main():
     if sys.argv[1:] != ["--check"]:
         sys.exit(__doc__)
     failed = False
-    for test in (alone, hooking, numbers, nothing_missing, oem_and_names, around, table, crc, jobs, parts, version):
+    for test in (alone, hooking, prototypes, in_one_place, numbers, nothing_missing, oem_and_names, around, table, comments, crc, jobs, parts, version):
         faults = test()
         failed |= bool(faults)
         print("\n".join(f"header, {test.__name__}: {fault}" for fault in faults) or f"header, {test.__name__}: as defined")

@@ -85,6 +85,12 @@ AS_WRITTEN = {
     "stat ''": framed(8, b"\0"),
     "sessionstat 9": framed(9, b"\x09\0"),
     "writemeta 9": framed(10, b"\x09\0\0\0\0\0"),
+    "write 1 2 417f": framed(4, b"\1\0\2\0\0\0A\x7f"),
+    "stat '/scan/a#b'": framed(8, b"/scan/a#b\0"),
+    "stat '/scan/\"'": framed(8, b"/scan/\"\0"),
+    "stat '/scan/\\\\'": framed(8, b"/scan/\\\0"),
+    "raw CFC30000": b"\xcf\xc3\0\0",
+    "raw CFC20006FF": b"\xcf\xc2\0\x06\xff",
     "raw": b"",
     f"raw {'5A' * 255}": b"\x5a" * 255,
 }
@@ -169,7 +175,13 @@ FAULTS = [
     ("7 open /scan/a#b 0003", "# inside the word /scan/a#b: put a blank before a comment, or the word in quotes"),
     ("7 open /scan/caf\u00e9 0003", "\u00e9 stands outside quotes"),
     ("7 write 0 0 \u2018hi\u2019", "\u2018 stands outside quotes"),
-    ("7 write 0 0 'a\x07'", "a control character: in quotes it is written \\x07"),
+    *((f"7 write 0 0 'a{chr(code)}'", f"a control character: in quotes it is written \\x{code:02x}") for code in (0, 7, 0x0B, 0x0C, 0x1B, 0x7F, 0x85, 0x9F)),
+    ("7 write 0 0 ab\"c\"", "\" inside the word ab\"c\": put the whole word in quotes"),
+    ("7 write 0 0 '\\X41'", "unknown escape \\X: there are \\\\ \\' \\\" \\n \\r \\t \\xHH"),
+    ("7 write 0 0 'a'#", "a blank is missing behind 'a'"),
+    ("7 close '0'", "SESSION is a number from 0 to 65535, not '0'"),
+    ("7 open /scan/a '0003'", "FLAGS is a number from 0 to ffff, in hex, not '0003'"),
+    ("7 open /scan/a 00003", "FLAGS is a number from 0 to ffff, in hex, not 00003"),
     ("7 commit", "commit takes SESSION, and here are 0 words"),
     ("7 commit 0 0", "commit takes SESSION, and here are 2 words"),
     ("7 close x", "SESSION is a number from 0 to 65535, not x"),
@@ -211,6 +223,11 @@ def bad_files():
                 preexec_fn=lambda: resource.setrlimit(resource.RLIMIT_FSIZE, (100, 100)))
         refused("a full device", "/dev/full: cannot be written: No space left on device", "make", "story.txt", "/dev/full", folder=folder)
         refused("standard input twice", "standard input can be read only once", "show", "-", "-", folder=folder)
+        (folder / "same").hardlink_to(folder / "story.txt")
+        for words in (["make", "story.txt", "same"], ["upload", "/scan/a", "story.txt", "same"], ["received", "story.txt", "none", "same"], ["received", "none", "story.txt", "same"],
+                      ["to-ipmitool", "story.txt", "same"], ["from-ipmitool", "story.txt", "same"], ["ipmitool-answers", "story.txt", "same"]):
+            refused(f"{words[0]} onto its input", "same: is both read and written", *words, folder=folder)
+        refused("standard input twice", "standard input can be read only once", "tell", "-", "-", folder=folder)
         for words in (["show", "none", "story.txt"], ["to-ipmitool", "none"], ["from-ipmitool", "none", "new"], ["ipmitool-answers", "none"], ["upload", "/scan/a", "none", "new"]):
             refused(f"{words[0]}, missing", "none: cannot be read: No such file or directory", *words, folder=folder)
         for words in (["show", "story.txt", "none"], ["received", "story.txt", "none", "new"]):
@@ -218,6 +235,13 @@ def bad_files():
         if os.geteuid():
             (folder / "story.txt").chmod(0)
             expect("unreadable", tool("make", "story.txt", "new", folder=folder), (1, b"", "story.txt: cannot be read: Permission denied\n"))
+
+
+def ended_early():
+    """A reader that ends early, as `head`, ends the tool without a word."""
+    requests, lines = ROOT / "examples" / "two-moreaus.requests", ROOT / "examples" / "two-moreaus.lines"
+    done = subprocess.run(["sh", "-c", '"$1" "$2" show "$3" "$4" | true', "sh", sys.executable, str(TOOL), str(requests), str(lines)], capture_output=True, check=False)
+    expect("into a pipe that is closed", (done.returncode, done.stdout, done.stderr), (0, b"", b""))
 
 
 def kept_files():
@@ -256,6 +280,7 @@ def arguments():
         refused("too many", f"recording.py: unrecognized arguments: z {more}", "make", "x", "y", "z", folder=folder)
         refused("a session", f"recording.py upload: argument --session: a number from 0 to 65535 is wanted, not 65536 {more}", "upload", "/scan/a", "-", "--session", "65536", folder=folder)
         refused("a length", f"recording.py download: argument --length: a number from 0 to 4096 is wanted, not 4_0 {more}", "download", "/scan/a", "--length", "4_0", folder=folder)
+        refused("no abbreviation", f"recording.py: unrecognized arguments: --sess 1 {more}", "upload", "/scan/a", "-", "--sess", "1", folder=folder)
         for wrong in ("/scan/", "/scan/a-b", "/scan/" + "x" * 26, "/flash/image"):
             why = f"{wrong}: a name of the store is /scan/ and 1 to 25 letters or digits"
             refused(wrong, why, "upload", wrong, "-", folder=folder)
@@ -347,8 +372,13 @@ def showing():
     pointed_out()
     for state, words in ((0x0A, "open for writing, committed"), (0x12, "open for writing, job failed"), (0x8123, "open for reading, open for writing, unknown bits 8120")):
         expect(f"state {state:x}", transcript.state_in_words(state), words)
-    for code in (0xC4, 0xC8, 0xFF):
-        expect(f"code {code:02X} is one of the library", "no code of this library" in transcript.refusal(code), False)
+    for code, words in ((0xC4, "no free row or slot"), (0xC8, "the Write would end past the capacity"), (0xFF, "the state is not sound")):
+        expect(f"code {code:02X}", transcript.refusal(code), f"refused, code {code:02X}: {words}")
+    expect("a size of four bytes, and metadata", transcript.stat_in_words(b"\x0b\0\1\2\3\4\5"), f"state 000b: open for reading, open for writing, committed; size {0x04030201}, metadata length 5")
+    widest = recording.make("4294967295 count")
+    with tempfile.TemporaryDirectory() as name:
+        (pathlib.Path(name) / "requests").write_bytes(widest)
+        expect("the greatest clock", good("show", "requests", "-", data=blobrun(widest), folder=name), b"4294967295 count -> accepted: 4 names\n")
     expect("another code", transcript.refusal(0xD4), "refused, code D4: no code of this library")
 
 
@@ -365,12 +395,16 @@ def pointed_out():
 
 def wrong_lines():
     """Lines that are not the answers to their requests are told, and nothing is shown."""
-    asked = "7 open /scan/a 0003\n7 close 0\n7 count\n7 enumerate 0\n"
+    asked = "7 open /scan/a 0003\n7 close 0\n7 count\n7 enumerate 0\n7 stat /scan/a\n7 sessionstat 1\n7 read 1 0 58\n"
     made = recording.make(asked)
     right = blobrun(made).decode().splitlines()
     short = framed(0, b"\5\0").hex().upper()
     two = framed(1, b"a\0b\0").hex().upper()
-    cases = [(0, "00", "an accepted request has a response, and a refused one has none"), (1, "CB CFC20006", "an accepted request has a response, and a refused one has none"),
+    longest = framed(3, bytes(59)).hex().upper()
+    wrong_sizes = [(0, 2, "open /scan/a 0003", bytes(1)), (0, 2, "open /scan/a 0003", bytes(3)), (4, 8, "stat /scan/a", bytes(6)), (4, 8, "stat /scan/a", bytes(8)), (5, 9, "sessionstat 1", bytes(6)),
+                   (3, 1, "enumerate 0", b"abc"), (1, 6, "close 0", bytes(2))]
+    sizes = [(at, f"00 {framed(sub, fields).hex().upper()}", f"{framed(sub, fields).hex().upper()} has not the form of a response to {request}") for at, sub, request, fields in wrong_sizes]
+    cases = [*sizes, (6, f"00 {longest}", f"{longest} is no response to read 1 0 58"), (0, "00", "an accepted request has a response, and a refused one has none"), (1, "CB CFC20006", "an accepted request has a response, and a refused one has none"),
              (1, "00 CFC20005", "CFC20005 is no response to close 0"), (1, "00 CFC20006FFFF", "CFC20006FFFF has not the form of a response to close 0"),
              (2, right[2][:-1] + "1", f"{right[2][3:-1]}1 is no response to count"), (2, f"00 {short}", f"{short} has not the form of a response to count"),
              (3, f"00 {two}", f"{two} has not the form of a response to enumerate 0"), (1, "CUT", "CUT stands for a record that is whole"), (1, "cb", "no line of an answer: cb"),
@@ -383,15 +417,15 @@ def wrong_lines():
             (folder / "lines").write_text("\n".join(right[:at] + [line] + right[at + 1:]) + "\n", encoding="ascii")
             refused(f"line {at + 1}, {line}", f"lines:{at + 1}: {why}", "show", "requests", "lines", folder=folder)
             refused(f"line {at + 1}, {line}", f"lines:{at + 1}: {why}", "tell", "story", "lines", folder=folder)
-        (folder / "lines").write_text("\n".join(right[:3]), encoding="ascii")
-        refused("a line less", "lines:4: the lines end, and the request file has 4 records", "show", "requests", "lines", folder=folder)
+        (folder / "lines").write_text("\n".join(right[:6]), encoding="ascii")
+        refused("a line less", "lines:7: the lines end, and the request file has 7 records", "show", "requests", "lines", folder=folder)
         (folder / "lines").write_text("\n".join(right + ["CB"]), encoding="ascii")
         for words in (["show", "requests", "lines"], ["tell", "story", "lines"]):
-            refused(f"{words[0]}, a line more", "lines:5: a line too many: the request file has 4 records", *words, folder=folder)
+            refused(f"{words[0]}, a line more", "lines:8: a line too many: the request file has 7 records", *words, folder=folder)
         (folder / "lines").write_text("\n".join(right), encoding="ascii")
         (folder / "requests").write_bytes(made + b"\0")
         (folder / "lines").write_text("\n".join(right + ["C7"]), encoding="ascii")
-        refused("a cut record without CUT", "lines:5: C7 stands for a record that is cut", "show", "requests", "lines", folder=folder)
+        refused("a cut record without CUT", "lines:8: C7 stands for a record that is cut", "show", "requests", "lines", folder=folder)
 
 
 def transfers():
@@ -414,6 +448,16 @@ def transfers():
             expect(f"{length} bytes: there and back", (folder / "back").read_bytes(), data)
         (folder / "file").write_bytes(bytes(4097))
         refused("4,097 bytes", "file: longer than the 4096 bytes that a name holds", "upload", "/scan/foot", "file", "new", folder=folder)
+
+
+def lines_of_transfers():
+    """The readable lines of an upload and a download, whole."""
+    name = "/scan/" + "n" * 25
+    found = good("upload", name, "-", "--clock", 5, "--session", 258, "--replace", data=b"x" * 52 + b"\0").decode().splitlines()
+    expect("lines of an upload", found, [f"5 delete {name}", f"5 open {name} 0003", f"5 write 258 0 '{'x' * 52}'", "5 write 258 52 00", "5 commit 258", "5 close 258"])
+    found = good("download", name, "--clock", 6, "--session", 300, "--length", 60).decode().splitlines()
+    expect("lines of a download", found, [f"6 open {name} 0001", "6 read 300 0 58", "6 read 300 58 2", "6 close 300"])
+    expect("Reads of all that a name can hold", len(good("download", name).splitlines()), 2 + -(-4096 // 58))
 
 
 def replaced():
@@ -439,6 +483,7 @@ def not_received():
     begin = "7 open /scan/a 0003\n7 write 0 0 'abcdef'\n7 commit 0\n"
     cases = [("7 open /scan/b 0001\n", [], "lines:4: open /scan/b 0001: refused, code CB: no such blob or session"), ("7 read 1 0 58\n", [], "lines:4: read 1 0 58: refused, code CB: no such blob or session"),
              ("", [], "lines: there is no Read"), ("7 read 0 0 6\n", ["--name", "/scan/b"], "lines: there is no Read of /scan/b"),
+             ("7 read 0 4 2\n7 read 0 0 2\n", [], "lines:4: this Read starts at 4, and no Read brought the bytes from 2 on"),
              ("7 read 0 0 2\n7 read 0 4 2\n", [], "lines:5: this Read starts at 4, and no Read brought the bytes from 2 on"),
              ("7 read 0 0 6\n7 write 0 0 'X'\n7 read 0 0 6\n", [], "lines:6: this Read brought other bytes than another one from 0 on"),
              ("7 read 0 0 58\n7 write 0 6 'X'\n7 read 0 0 58\n", [], "lines:4: this Read met the end at 6, and another one brought bytes from behind it"),
@@ -449,6 +494,11 @@ def not_received():
             (folder / "requests").write_bytes(recording.make(begin + more))
             (folder / "lines").write_bytes(blobrun((folder / "requests").read_bytes()))
             refused(more, why, "received", "requests", "lines", "back", *options, folder=folder)
+        overlapping = recording.make(begin + "7 read 0 3 58\n7 read 0 0 4\n7 read 0 1 3\n")
+        (folder / "more").write_bytes(overlapping)
+        (folder / "more lines").write_bytes(blobrun(overlapping))
+        found = tool("received", "more", "more lines", "-", folder=folder)
+        expect("Reads that overlap, in any order", found, (0, b"abcdef", "/scan/a: 6 bytes, all it has\n"))
         found = tool("received", "requests", "lines", "-", "--name", "/scan/a", folder=folder)
         expect("one of two names", found, (0, b"abcdef", "/scan/a: 6 bytes, and there may be more: no Read met the end\n"))
 
@@ -522,6 +572,9 @@ def ipmitool():
         printed = "".join(map(fake_ipmitool.printed, lines.splitlines()))
         expect(f"{what}: answers", good("ipmitool-answers", "-", data=printed.encode()).decode(), lines)
     expect("other numbers", good("to-ipmitool", "-", "--netfn", "0x3a", "--cmd", "1", data=one_record(b"\5")), b"0x3a 0x01 0x05\n")
+    longest = "0x2e 0x80" + " 0x5a" * 255
+    expect("the longest message", good("from-ipmitool", "-", "-", "--clock", 7, data=longest.encode()), one_record(b"\x5a" * 255))
+    expect("a code of one digit", good("ipmitool-answers", "-", data=b"Unable to send RAW command (channel=0x0 netfn=0x2e lun=0x0 cmd=0x80 rsp=0x5): Some words\n"), b"05\n")
     script = b"# a script\nipmitool -H host -P raw raw 0x2E 128 0xcf 194 0 0x0   # count\n\n"
     expect("a line of a script", good("from-ipmitool", "-", "-", "--clock", 7, data=script), one_record(framed(0)))
 
@@ -541,7 +594,10 @@ def wrong_for_ipmitool():
     """Lines that ipmitool does not take or print are told, and no file is written."""
     both = ambiguous(random.Random(14))
     texts = list(map(fake_ipmitool.printed, both))
-    printed = [("cf c2 00", "no response: OEM number, subcommand, length or CRC is wrong"), (" cf c2 00 00 31 4e 04 00 00 01", "no response: OEM number, subcommand, length or CRC is wrong"),
+    unlike = "(channel=0x0 netfn=0x2e lun=0x0 cmd=0x80 rsp=0x0): Some words", "neither a response nor a completion code: "
+    too_long = "\n".join(fake_ipmitool.printed(f"00 {framed(3, bytes(59)).hex()}").splitlines())
+    printed = [(f"Unable to send RAW command {unlike[0]}", f"{unlike[1]}Unable to send RAW command {unlike[0]}"), ("Failed (rsp=0xcb)", f"{unlike[1]}Failed (rsp=0xcb)"),
+               (too_long, "no response: OEM number, subcommand, length or CRC is wrong"), ("cf c2 00", "no response: OEM number, subcommand, length or CRC is wrong"), (" cf c2 00 00 31 4e 04 00 00 01", "no response: OEM number, subcommand, length or CRC is wrong"),
                ("Error: Unable to establish IPMI v2 / RMCP+ session", "neither a response nor a completion code: Error: Unable to establish IPMI v2 / RMCP+ session"),
                ("Unable to send RAW command (channel=0x0 netfn=0x2e lun=0x0 cmd=0x80)", "neither a response nor a completion code: Unable to send RAW command (channel=0x0 netfn=0x2e lun=0x0 cmd=0x80)"),
                ("".join(texts), "the response could end at several lines: put an empty line behind it")]
@@ -562,7 +618,7 @@ def wrong_for_ipmitool():
 def main():
     if sys.argv[1:] != ["--check"]:
         sys.exit(__doc__)
-    for test in (requests, random_messages, faults, bad_files, kept_files, arguments, examples, readme, showing, wrong_lines, transfers, replaced, not_received, stored, ipmitool, wrong_for_ipmitool):
+    for test in (requests, random_messages, faults, bad_files, ended_early, kept_files, arguments, examples, readme, showing, wrong_lines, transfers, lines_of_transfers, replaced, not_received, stored, ipmitool, wrong_for_ipmitool):
         test()
         print(f"recording, {test.__name__}: as expected")
 

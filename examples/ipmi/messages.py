@@ -8,9 +8,10 @@ COMMANDS = ["count", "enumerate", "open", "read", "write", "commit", "close", "d
 WRITE_MOST, READ_MOST = 52, 58
 
 # Bytes to upload, by name: of every value, and the same in each run.
-MADE = {"scan": random.Random(1).randbytes(4096), "image": random.Random(2).randbytes(16384)}
+MADE = {"scan": random.Random(1).randbytes(4096), "greatest": random.Random(2).randbytes(16384), "image": random.Random(3).randbytes(10000)}
 MADE["hash"] = hashlib.sha256(MADE["image"]).digest()
-MADE["wronghash"] = hashlib.sha256(MADE["scan"]).digest()
+# as long as the hash of the greatest image, and other than that in the last byte alone
+MADE["wronghash"] = hashlib.sha256(MADE["greatest"]).digest()[:-1] + bytes([hashlib.sha256(MADE["greatest"]).digest()[-1] ^ 1])
 
 
 def little(value, width):
