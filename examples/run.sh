@@ -8,10 +8,13 @@ case "$#${1:-}" in
   1-h | 1--help) usage; exit 0 ;;
   *) usage >&2; exit 1 ;;
 esac
+unset CDPATH
 root=$(cd "$(dirname "$0")/.." && pwd)
 story=${1:-$root/examples/two-moreaus.txt}
+[ -f "$story" ] || { echo "$story: no such file" >&2; exit 1; }
 out=$(mktemp -d)
 trap 'rm -rf "$out"' EXIT
+trap 'exit 1' INT TERM HUP # so that the folder is removed then too
 python3 "$root/tools/recording.py" make "$story" "$out/requests"
 mkdir -p "$root/target"
 [ -x "$root/target/bin/blobrun" ] || echo "Proving and building blobrun; that takes some minutes the first time." >&2

@@ -5,9 +5,11 @@ blobrun.py --check            needs target/bin/blobrun (rt check blobrun)
 blobrun.py --write PROGRAM    writes examples/*.lines by another program that prints the same lines"""
 import pathlib
 import resource
+import shlex
 import subprocess
 import sys
 import tempfile
+import time
 
 ROOT = pathlib.Path(__file__).resolve().parent.parent
 sys.path.insert(0, str(ROOT / "tools"))
@@ -58,6 +60,18 @@ def cut():
     expect("the same, whole", run(data=bytes(4) + b"\xff" + bytes(255))[0], "C7\n")
 
 
+def pieces():
+    """Standard input that comes in pieces, one byte or some at a time."""
+    data = (ROOT / "examples" / "two-moreaus.requests").read_bytes()
+    wanted = (ROOT / "examples" / "two-moreaus.lines").read_text(encoding="ascii")
+    with subprocess.Popen([str(PROGRAM)], stdin=subprocess.PIPE, stdout=subprocess.PIPE, bufsize=0) as process:
+        for start, end in ((0, 1), (1, 2), (2, 30), (30, 31), (31, len(data))):
+            process.stdin.write(data[start:end])
+            time.sleep(0.05)
+        found = process.communicate(timeout=60)[0].decode("ascii")
+    expect("standard input in pieces", found, wanted)
+
+
 def identifiers():
     """"Next" 65,535 is given out, then 0; a file of 65,537 Opens and Closes."""
     with tempfile.NamedTemporaryFile(suffix=".requests") as file:
@@ -71,14 +85,14 @@ def identifiers():
 
 
 def memory():
-    """Constant memory: with 64 MiB of address space a file of 24 MB runs."""
+    """Constant memory: with 16 MiB of address space a file of 24 MB runs."""
     record = recording.make("0 count\n")
     with tempfile.NamedTemporaryFile(suffix=".requests") as file:
         for _ in range(2700):
             file.write(record * 1000)
         file.flush()
         def limit():
-            resource.setrlimit(resource.RLIMIT_AS, (1 << 26, 1 << 26))
+            resource.setrlimit(resource.RLIMIT_AS, (1 << 24, 1 << 24))
         done = subprocess.run([str(PROGRAM), file.name], capture_output=True, check=False, preexec_fn=limit)
     line = run(data=record)[0].encode()
     expect("2,700,000 records", (len(done.stdout), done.stdout[:len(line)], done.stderr), (len(line) * 2700000, line, b""))
@@ -107,7 +121,7 @@ def tested():
         (folder / "cut").write_bytes(good.read_bytes()[:-1])
         (folder / "empty").write_bytes(b"")
         for file, holds in ((good, True), (folder / "empty", True), (folder / "cut", False), (folder / "absent", False)):
-            script = command.replace("blobrun FILE", f"{PROGRAM} {file}")
+            script = command.replace("blobrun FILE", f"{shlex.quote(str(PROGRAM))} {shlex.quote(str(file))}")
             expect(f"the test on {file.name}", subprocess.run(["sh", "-c", script], cwd=folder, check=False).returncode == 0, holds)
 
 
@@ -118,7 +132,7 @@ def main():
             requests.write_bytes(recording.make(story.read_text(encoding="utf-8")))
             story.with_suffix(".lines").write_text(run(requests, program=sys.argv[2])[0], encoding="ascii")
         return
-    for test in (examples, paper, cut, identifiers, memory, words, tested):
+    for test in (examples, paper, cut, pieces, identifiers, memory, words, tested):
         test()
         print(f"blobrun, {test.__name__}: as expected")
 

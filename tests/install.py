@@ -19,6 +19,19 @@ ARCHIVE = "target/staticlib/libcapi.a"
 EXAMPLE = ROOT / "examples" / "c"
 
 
+PKG_CONFIG = """prefix={prefix}
+includedir=${{prefix}}/include
+libdir=${{prefix}}/lib
+
+Name: kramsnep
+Description: Verified blob library for IPMI management controllers
+Version: {version}
+License: Apache-2.0
+Cflags: -I${{includedir}}
+Libs: -L${{libdir}} -lkramsnep
+"""
+
+
 def expect(what, found, wanted):
     if found != wanted:
         sys.exit(f"{what}:\n  found  {found!r:.400}\n  wanted {wanted!r:.400}")
@@ -66,6 +79,8 @@ def in_place(folder):
     expect("their modes", {oct(path.stat().st_mode & 0o777) for path in (header, archive, file)}, {"0o644"})
     version, words = flags(file)
     expect("the version", f'#define KRAMSNEP_VERSION "{version}"' in header.read_text(encoding="ascii"), True)
+    prefix = folder / "usr/local"
+    expect("the pkg-config file", file.read_text(encoding="ascii"), PKG_CONFIG.format(prefix=prefix, version=version))
     expect("the flags", words, [f"-I{header.parent}", f"-L{archive.parent}", "-lkramsnep"])
 
 
@@ -79,6 +94,23 @@ def example(folder):
     expect("the example runs", (done.returncode, done.stdout), (0, (EXAMPLE / "upload.expected").read_text(encoding="ascii")))
 
 
+def other_tree(folder):
+    """The version is read from the header, the folders can be read by all whatever the umask, and what was said to build against it does."""
+    tree = folder / "tree"
+    for name in (SCRIPT, "include/kramsnep.h", ARCHIVE):
+        (tree / name).parent.mkdir(parents=True, exist_ok=True)
+        shutil.copy(ROOT / name, tree / name)
+    header = tree / "include" / "kramsnep.h"
+    header.write_text(re.sub(r'(?m)^#define KRAMSNEP_VERSION ".*"$', '#define KRAMSNEP_VERSION "7.8.9"', header.read_text(encoding="ascii")), encoding="ascii")
+    done = run(["sh", "-c", f"umask 077; CDPATH=. {tree / SCRIPT} here"], folder)
+    expect("install.sh of another version", (done.returncode, done.stdout.splitlines()[0].split(":")[0]), (0, "kramsnep 7.8.9"))
+    expect("its folders", {oct(path.stat().st_mode & 0o777) for path in (folder / "here").rglob("*") if path.is_dir()}, {"0o755"})
+    expect("its version", "Version: 7.8.9\n" in (folder / "here/lib/pkgconfig/kramsnep.pc").read_text(encoding="ascii"), True)
+    if shutil.which("pkg-config"):
+        shutil.copy(EXAMPLE / "upload.c", folder / "program.c")
+        expect("the words that it says", run(["sh", "-c", done.stdout.splitlines()[1].partition(": ")[2]], folder).returncode, 0)
+
+
 def refusals(folder):
     """Wrong words, and a tree without an archive: one line, status 1, and nothing is put anywhere."""
     tree = folder / "tree"
@@ -86,7 +118,7 @@ def refusals(folder):
         (tree / name).parent.mkdir(parents=True, exist_ok=True)
         shutil.copy(ROOT / name, tree / name)
     for script, words, wanted in ((ROOT / SCRIPT, [], "usage"), (ROOT / SCRIPT, [""], "usage"), (ROOT / SCRIPT, ["--help"], "usage"), (ROOT / SCRIPT, ["a", "b"], "usage"),
-                                  (ROOT / SCRIPT, ["two words"], "letters, digits"), (tree / SCRIPT, ["here"], f"{ARCHIVE} is not there")):
+                                  (ROOT / SCRIPT, ["two words"], "letters, digits"), (ROOT / SCRIPT, ["a:b"], "letters, digits"), (ROOT / SCRIPT, ["a$b"], "letters, digits"), (tree / SCRIPT, ["here"], f"{ARCHIVE} is not there")):
         done = run([script, *words], folder)
         if done.returncode != 1 or done.stdout or done.stderr.count("\n") != 1 or wanted not in done.stderr:
             sys.exit(f"install.sh {words}: status {done.returncode}, {done.stdout!r}, {done.stderr!r}")
@@ -96,7 +128,7 @@ def refusals(folder):
 def main():
     if sys.argv[1:] != ["--check"]:
         sys.exit(__doc__)
-    for test in (in_place, example, refusals):
+    for test in (in_place, example, other_tree, refusals):
         with tempfile.TemporaryDirectory() as folder:
             test(pathlib.Path(folder).resolve())
         print(f"install, {test.__name__}: as expected")

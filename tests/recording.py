@@ -221,7 +221,15 @@ def bad_files():
         refused("onto itself", "story.txt: is both read and written", "make", "story.txt", "story.txt", folder=folder)
         refused("a full disk", "new: cannot be written: File too large", "make", "story.txt", "new", folder=folder,
                 preexec_fn=lambda: resource.setrlimit(resource.RLIMIT_FSIZE, (100, 100)))
-        refused("a full device", "/dev/full: cannot be written: No space left on device", "make", "story.txt", "/dev/full", folder=folder)
+        with open("/dev/full", "wb") as full:
+            done = subprocess.run([sys.executable, str(TOOL), "make", "story.txt", "-"], cwd=folder, stdout=full, stderr=subprocess.PIPE, check=False)
+        expect("a full device", (done.returncode, done.stderr), (1, b"standard output: cannot be written: No space left on device\n"))
+        (folder / "loop").symlink_to("loop")
+        refused("links that lead to each other", "loop: cannot be written: Too many levels of symbolic links", "make", "story.txt", "loop", folder=folder)
+        (folder / "loop").unlink()
+        with open(folder / "story.txt", "rb") as story_file:
+            done = subprocess.run([sys.executable, str(TOOL), "make", "-", "story.txt"], cwd=folder, stdin=story_file, capture_output=True, check=False)
+        expect("standard input that is the output", (done.returncode, done.stderr), (1, b"story.txt: is both read and written\n"))
         refused("standard input twice", "standard input can be read only once", "show", "-", "-", folder=folder)
         (folder / "same").hardlink_to(folder / "story.txt")
         for words in (["make", "story.txt", "same"], ["upload", "/scan/a", "story.txt", "same"], ["received", "story.txt", "none", "same"], ["received", "none", "story.txt", "same"],
@@ -259,9 +267,17 @@ def kept_files():
         good("make", "story.txt", "new", folder=folder)
         os.umask(mask)
         expect("access rights of a new file", (folder / "new").stat().st_mode & 0o777, 0o640)
-        good("make", "story.txt", "/dev/null", folder=folder)
-        expect("a device", pathlib.Path("/dev/null").is_char_device(), True)
-        expect("the files", sorted(path.name for path in folder.iterdir()), ["link", "new", "old", "story.txt"])
+        os.mkfifo(folder / "pipe")
+        with subprocess.Popen(["cat", "pipe"], cwd=folder, stdout=subprocess.PIPE) as reader:
+            good("make", "story.txt", "pipe", folder=folder)
+            expect("a pipe", (reader.communicate(timeout=60)[0], (folder / "pipe").is_fifo()), (one_record(framed(0)), True))
+        with open(folder / "log", "wb") as log:
+            log.write(b"before ")
+            log.flush()
+            for path in ("/dev/stdout", "/dev/fd/1"):
+                subprocess.run([sys.executable, str(TOOL), "make", "story.txt", path], cwd=folder, stdout=log, check=True)
+        expect("behind what was written", (folder / "log").read_bytes(), b"before " + one_record(framed(0)) * 2)
+        expect("the files", sorted(path.name for path in folder.iterdir()), ["link", "log", "new", "old", "pipe", "story.txt"])
 
 
 def arguments():
@@ -417,6 +433,8 @@ def wrong_lines():
             (folder / "lines").write_text("\n".join(right[:at] + [line] + right[at + 1:]) + "\n", encoding="ascii")
             refused(f"line {at + 1}, {line}", f"lines:{at + 1}: {why}", "show", "requests", "lines", folder=folder)
             refused(f"line {at + 1}, {line}", f"lines:{at + 1}: {why}", "tell", "story", "lines", folder=folder)
+        impossible(folder)
+        (folder / "requests").write_bytes(made)
         (folder / "lines").write_text("\n".join(right[:6]), encoding="ascii")
         refused("a line less", "lines:7: the lines end, and the request file has 7 records", "show", "requests", "lines", folder=folder)
         (folder / "lines").write_text("\n".join(right + ["CB"]), encoding="ascii")
@@ -426,6 +444,18 @@ def wrong_lines():
         (folder / "requests").write_bytes(made + b"\0")
         (folder / "lines").write_text("\n".join(right + ["C7"]), encoding="ascii")
         refused("a cut record without CUT", "lines:8: C7 stands for a record that is cut", "show", "requests", "lines", folder=folder)
+
+
+def impossible(folder):
+    """Requests that no library accepts, and more bytes than were asked for."""
+    for request, answer, why in (("writemeta 0", framed(10), "writemeta 0 cannot be accepted"), ("raw CFC20006FFFF", framed(6), "raw CFC20006FFFF cannot be accepted"),
+                                 (f"raw {framed(4, bytes(60)).hex()}", framed(4), f"raw {framed(4, bytes(60)).hex().upper()} cannot be accepted"), ("open '' 0003", framed(2, b"\0\0"), "open '' 0003 cannot be accepted"),
+                                 (f"stat {'n' * 32}", framed(8, bytes(7)), f"stat {'n' * 32} cannot be accepted"), ("read 0 0 3", framed(3, b"abcd"), "4 bytes are answered to read 0 0 3"),
+                                 ("enumerate 0", framed(1, b"\0"), f"{framed(1, bytes(1)).hex().upper()} has not the form of a response to enumerate 0"),
+                                 ("enumerate 0", framed(1, b"n" * 32 + b"\0"), f"{framed(1, b'n' * 32 + bytes(1)).hex().upper()} has not the form of a response to enumerate 0")):
+        (folder / "requests").write_bytes(recording.make(f"7 {request}"))
+        (folder / "lines").write_text(f"00 {answer.hex().upper()}\n", encoding="ascii")
+        refused(request, f"lines:1: {why}", "show", "requests", "lines", folder=folder)
 
 
 def transfers():
@@ -485,8 +515,8 @@ def not_received():
              ("", [], "lines: there is no Read"), ("7 read 0 0 6\n", ["--name", "/scan/b"], "lines: there is no Read of /scan/b"),
              ("7 read 0 4 2\n7 read 0 0 2\n", [], "lines:4: this Read starts at 4, and no Read brought the bytes from 2 on"),
              ("7 read 0 0 2\n7 read 0 4 2\n", [], "lines:5: this Read starts at 4, and no Read brought the bytes from 2 on"),
-             ("7 read 0 0 6\n7 write 0 0 'X'\n7 read 0 0 6\n", [], "lines:6: this Read brought other bytes than another one from 0 on"),
-             ("7 read 0 0 58\n7 write 0 6 'X'\n7 read 0 0 58\n", [], "lines:4: this Read met the end at 6, and another one brought bytes from behind it"),
+             ("7 read 0 0 3\n7 write 0 0 'UVWXYZ'\n7 read 0 3 58\n", [], "lines:6: what this Read reads was opened anew, or written, since another Read of /scan/a"),
+             ("7 read 0 0 3\n7 close 0\n7 open /scan/a 0001\n7 read 1 3 58\n", [], "lines:7: what this Read reads was opened anew, or written, since another Read of /scan/a"),
              ("7 open /scan/b 0003\n7 read 0 0 6\n7 read 1 0 6\n", [], "lines: Reads of 2 names: /scan/a, /scan/b; say which by --name")]
     with tempfile.TemporaryDirectory() as name:
         folder = pathlib.Path(name)
@@ -501,6 +531,22 @@ def not_received():
         expect("Reads that overlap, in any order", found, (0, b"abcdef", "/scan/a: 6 bytes, all it has\n"))
         found = tool("received", "requests", "lines", "-", "--name", "/scan/a", folder=folder)
         expect("one of two names", found, (0, b"abcdef", "/scan/a: 6 bytes, and there may be more: no Read met the end\n"))
+        forged(folder, begin)
+
+
+def forged(folder, begin):
+    """Answers that no library gives, and sessions that the recording did not open."""
+    (folder / "requests").write_bytes(recording.make(begin + "7 read 0 0 58\n7 read 0 0 58\n"))
+    right = blobrun((folder / "requests").read_bytes()).decode().splitlines()
+    for answer, why in ((b"Xbcdef", "lines:5: this Read brought other bytes than another one from 0 on"), (b"abcdefg", "lines:4: this Read met the end at 6, and another one brought bytes from behind it")):
+        (folder / "lines").write_text("\n".join([*right[:4], f"00 {framed(3, answer).hex().upper()}"]), encoding="ascii")
+        refused(why, why, "received", "requests", "lines", "back", folder=folder)
+    both = recording.make("0 open /scan/a 0003\n0 write 0 0 'AAAA'\n0 open /scan/b 0003\n0 write 1 0 'BBBBBBBB'\n")
+    reads = recording.make("0 read 0 0 4\n0 read 1 4 4\n")
+    (folder / "requests").write_bytes(reads)
+    (folder / "lines").write_bytes(b"".join(blobrun(both + reads).splitlines(keepends=True)[4:]))
+    why = "lines: Reads of 2 names: session 0, which was not opened here,, session 1, which was not opened here,; say which by --name"
+    refused("two sessions of others", why, "received", "requests", "lines", "back", folder=folder)
 
 
 def stored():

@@ -3,6 +3,7 @@
 #   PREFIX/include/kramsnep.h   PREFIX/lib/libkramsnep.a   PREFIX/lib/pkgconfig/kramsnep.pc
 # First `rt staticlib capi`. Then, with PREFIX/lib/pkgconfig in PKG_CONFIG_PATH: cc program.c $(pkg-config --cflags --libs kramsnep)
 set -eu
+unset CDPATH
 usage() { echo "usage: install.sh PREFIX" >&2; exit 1; }
 [ $# -eq 1 ] || usage
 case $1 in
@@ -20,7 +21,7 @@ header=$root/include/kramsnep.h
 version=$(sed -n 's/^#define KRAMSNEP_VERSION "\(.*\)"$/\1/p' "$header")
 [ -n "$version" ] || { echo "install.sh: include/kramsnep.h has no version" >&2; exit 1; }
 
-mkdir -p "$prefix/include" "$prefix/lib/pkgconfig"
+install -d -m 755 "$prefix/include" "$prefix/lib" "$prefix/lib/pkgconfig"
 install -m 644 "$header" "$prefix/include/kramsnep.h"
 install -m 644 "$archive" "$prefix/lib/libkramsnep.a"
 # The archive needs memcpy and memset, which every C library has, and so no other package.

@@ -17,10 +17,12 @@ Quotes are ' or "; inside them \\\\ \\' \\" \\n \\r \\t \\xHH are escapes, and t
 A file called - is standard input, or standard output where it is written. What is wrong is told in one line, FILE:LINE: what;
 then the exit status is 1, and no file is written or changed."""
 import argparse
+import os
 import re
 import signal
 import sys
 
+sys.path.insert(0, os.path.dirname(os.path.realpath(__file__)))  # whatever Python was told of it
 from blob_recording import controller, files, ipmitool, story, transcript, transfer
 from blob_recording.files import Fault
 from blob_recording.messages import SCAN_SIZE, message, records  # noqa: F401 (for the tests and benchmarks, which import this file)
@@ -99,19 +101,21 @@ def run_download(given):
     """NAME [REQUESTS]: a recording that reads a name back: Open for reading, Reads of 58 bytes, Close
 
 Without REQUESTS the readable lines are printed; with it the request file is written.
-Behind the end of what is stored a Read brings nothing, so the default length brings all of it. `received` puts the bytes together."""
+Behind the end of what is stored a Read brings nothing, so the default length brings all of it. `received` puts the bytes together.
+Options stand behind these words or in front of them, not between them."""
     give_story(transfer.download(given.name, given.length, given.session, given.clock), given.requests)
 
 
 def run_received(given):
     """STORY.requests LINES FILE: the bytes that the Reads of a name brought, into a file
 
-Nothing is written if an Open or a Read of the name was refused, if bytes are missing in between, or if two Reads differ.
+Nothing is written if an Open or a Read of the name was refused, if bytes are missing in between, if two Reads differ, or if the Reads are
+not all of one session, with nothing written by it between them.
 A line on standard error says how many bytes came, and whether the Reads met their end."""
     files.check_paths([given.requests, given.lines], given.file)
     name, data, whole = transfer.received(files.read_bytes(given.requests), files.read_lines(given.lines), files.called(given.lines), given.name)
     files.write(given.file, data)
-    print(f"{name}: {len(data)} bytes, {'all it has' if whole else 'and there may be more: no Read met the end'}", file=sys.stderr)
+    files.say(f"{name}: {len(data)} bytes, {'all it has' if whole else 'and there may be more: no Read met the end'}")
 
 
 def client_of(given):
@@ -219,7 +223,13 @@ def main():
         given = parser().parse_args()
         given.run(given)
     except Fault as fault:
-        sys.exit(str(fault))
+        files.say(str(fault))
+        sys.exit(1)
+    except MemoryError:
+        files.say("recording.py: out of memory")
+        sys.exit(1)
+    except KeyboardInterrupt:
+        sys.exit(130)
 
 
 if __name__ == "__main__":

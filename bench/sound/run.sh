@@ -1,9 +1,11 @@
 #!/bin/sh
 # CC names the C compiler (default cc). Builds the soundness test as a static library in a copy of the repository (the wrapper is no part of the library), links the benchmark and runs it.
 set -eu
+unset CDPATH
 here=$(cd "$(dirname "$0")" && pwd)
 copy=$(mktemp -d)
 trap 'rm -rf "$copy"' EXIT
+trap 'exit 1' INT TERM HUP # so that the folder is removed then too
 cp -r "$here/../../crates" "$here/../../crates.txt" "$copy"
 # what is proved already need not be proved again
 if [ -d "$here/../../target" ]; then cp -r "$here/../../target" "$copy"; fi

@@ -2,11 +2,13 @@
 # Builds upload.c against the library and compares what it prints with upload.expected; then gives it a name that the library refuses, which it must
 # notice, and compares with refused.expected. Run anywhere; first `rt staticlib capi`.
 set -eu
+unset CDPATH
 cd "$(dirname "$0")/../.."
 library=target/staticlib/libcapi.a
 [ -f "$library" ] || { echo "$library is not there: run 'rt staticlib capi' first" >&2; exit 1; }
 out=$(mktemp -d)
 trap 'rm -rf "$out"' EXIT
+trap 'exit 1' INT TERM HUP # so that the folder is removed then too
 ${CC:-cc} -std=c99 -Wall -Wextra -Wpedantic -Werror -O2 -Iinclude examples/c/upload.c "$library" -o "$out/upload"
 "$out/upload" >"$out/printed"
 diff examples/c/upload.expected "$out/printed"

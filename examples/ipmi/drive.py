@@ -303,7 +303,8 @@ def serve(module, folder):
 def main():
     module, asked = pathlib.Path(sys.argv[1]).resolve(), sys.argv[2:]
     story = pathlib.Path(asked[0]) if asked else HERE / "story.txt"
-    signal.signal(signal.SIGTERM, lambda *_: sys.exit(1))  # so that the simulator is ended then too
+    for end in (signal.SIGTERM, signal.SIGHUP):
+        signal.signal(end, lambda *_: sys.exit(1))  # so that the simulator is ended then too
     part = story.name
     with tempfile.TemporaryDirectory() as folder:
         try:

@@ -111,7 +111,7 @@ int ipmi_sim_module_print_version(sys_data_t *sys, char *options)
 int ipmi_sim_module_init(sys_data_t *sys, const char *options)
 {
     simulator = sys;
-    if (options == NULL || sscanf(options, "%u %511s", &job_milliseconds, install_path) != 2) {
+    if (options == NULL || sscanf(options, "%u %511[^\n]", &job_milliseconds, install_path) != 2) {
         SAY("the options must be 'MILLISECONDS FILE'\n");
         return -1;
     }

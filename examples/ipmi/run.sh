@@ -9,8 +9,12 @@ set -eu
 case "$#${1:-}" in
 0 | 1--serve) ;;
 1-* | [!1]*) sed -n '2,8s/^# \{0,1\}//p' "$0" >&2; exit 1 ;;
-*) story=$(realpath "$1") && set -- "$story" ;;
+*) [ -f "$1" ] || { echo "$1: no such file" >&2; exit 1; }
+  story=$(realpath "$1") && set -- "$story" ;;
 esac
+unset CDPATH
+compiler=${CC:-cc}
+command -v "${compiler%% *}" >/dev/null 2>&1 || { echo "no C compiler: $compiler" >&2; exit 1; }
 cd "$(dirname "$0")/../.."
 PATH=$PATH:/usr/sbin # an ordinary user's path may lack it, and ipmi-raw is there
 for peer in ipmi_sim ipmitool ipmi-raw; do

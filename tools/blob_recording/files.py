@@ -1,5 +1,7 @@
 """Files that are read whole and written whole, and what is wrong with them, told in one line."""
 import os
+import re
+import stat
 import tempfile
 
 STANDARD = "-"
@@ -32,8 +34,11 @@ def check_paths(inputs, output=None):
     """Refuses two inputs from standard input, and an output that is one of the inputs: it would be lost."""
     if sum(path == STANDARD for path in inputs) > 1:
         raise Fault("standard input can be read only once")
+    if output in (None, STANDARD) or not os.path.isfile(output):
+        return
     for path in inputs:
-        if STANDARD not in (path, output) and output is not None and os.path.isfile(output) and os.path.exists(path) and os.path.samefile(path, output):
+        read = 0 if path == STANDARD else path
+        if (path == STANDARD or os.path.exists(path)) and os.path.samestat(os.stat(read), os.stat(output)):
             raise Fault("is both read and written", output)
 
 
@@ -63,20 +68,43 @@ def lines_of(text):
 
 
 def write(path, data):
-    """Puts the bytes into a file, whole or not at all, or on standard output."""
+    """Puts the bytes into a file, whole or not at all, or on standard output, or where another descriptor leads."""
+    descriptor = descriptor_of(path)
     try:
-        if path == STANDARD:
-            write_all(1, data)
-            return
-        target = os.path.realpath(path)
-        if os.path.exists(target) and not os.path.isfile(target):
+        if descriptor is not None:
+            write_all(descriptor, data)
+        elif is_there(path) and not os.path.isfile(path):
             # a device or a pipe cannot be renamed over; a directory is refused here
-            with open(target, "wb", buffering=0) as file:
+            with open(path, "wb", buffering=0) as file:
                 write_all(file.fileno(), data)
         else:
-            replace(target, data)
+            replace(os.path.realpath(path), data)
     except OSError as error:
         raise Fault(f"cannot be written: {error.strerror}", "standard output" if path == STANDARD else str(path)) from error
+
+
+def descriptor_of(path):
+    """The descriptor that a path stands for, if it does: to open what lies behind it would begin at its start again."""
+    names = {STANDARD: 1, "/dev/stdout": 1, "/dev/stderr": 2}
+    number = re.fullmatch("/(?:dev|proc/self)/fd/([0-9]{1,5})", str(path))
+    return int(number.group(1)) if number else names.get(str(path))
+
+
+def is_there(path):
+    """Whether there is such a file; links that lead nowhere but to each other are an error."""
+    try:
+        os.stat(path)
+    except FileNotFoundError:
+        return False
+    return True
+
+
+def say(line):
+    """A line on standard error, as far as there is one."""
+    try:
+        write_all(2, f"{line}\n".encode("utf-8", "backslashreplace"))
+    except OSError:
+        pass
 
 
 def write_all(handle, data):
@@ -94,6 +122,8 @@ def replace(target, data):
     try:
         with os.fdopen(handle, "wb") as file:
             file.write(data)
+        if os.path.exists(target) and os.geteuid() == 0:
+            os.chown(temporary, os.stat(target).st_uid, os.stat(target).st_gid)
         os.chmod(temporary, mode_for(target))
         os.replace(temporary, target)
     except BaseException:
@@ -104,7 +134,7 @@ def replace(target, data):
 def mode_for(target):
     """The access rights that writing straight to the target would leave: its own, or those of a new file."""
     if os.path.exists(target):
-        return os.stat(target).st_mode & 0o777
+        return stat.S_IMODE(os.stat(target).st_mode)
     mask = os.umask(0)
     os.umask(mask)
     return 0o666 & ~mask

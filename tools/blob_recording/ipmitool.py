@@ -64,9 +64,9 @@ def requests(lines, source, netfn=NETWORK_FUNCTION, command=COMMAND, clock=0):
 
 
 def response_ends(lines, start):
-    """How many of the printed lines from there on can be one response: it goes on only behind a line of 16 bytes."""
-    end = start
-    while end < len(lines) and PRINTED.fullmatch(lines[end]):
+    """How many of the printed lines from there on can be one response: it goes on only behind a line of 16 bytes, and has 64 bytes at most."""
+    end, last = start, min(len(lines), start + messages.MESSAGE_SIZE // BYTES_A_LINE)
+    while end < last and PRINTED.fullmatch(lines[end]):
         end += 1
         yield end
         if len(lines[end - 1].split()) < BYTES_A_LINE:

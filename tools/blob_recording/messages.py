@@ -9,6 +9,7 @@ MESSAGE_SIZE = 64
 WRITE_MOST = 52
 READ_MOST = 58
 SCAN_SIZE = 4096
+NAME_MOST = 31
 # the completion code of an absent blob or session (rule 7.6)
 NOT_FOUND = 0xCB
 # what the length byte of a record can say: more than a message may have, so that one too long can be recorded

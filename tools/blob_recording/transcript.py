@@ -52,14 +52,33 @@ def exchange(at, clock, m, line):
     return Exchange(at, clock, m, code, name, fields)
 
 
+def is_name(fields):
+    """A name and its NUL (rule 4.1)."""
+    return 1 <= len(fields) - 1 <= messages.NAME_MOST and fields[-1:] == b"\0" and fields.count(0) == 1
+
+
+def can_be_accepted(m, name, fields):
+    """Whether there is a state in which the request is accepted, by its length (rules 1.2 and 3.1) and the form of its name (rule 4.1)."""
+    exact = {"count": 0, "enumerate": 4, "read": 10, "commit": 3, "close": 2, "sessionstat": 2}
+    if len(m) > messages.MESSAGE_SIZE or name == "writemeta":
+        return False
+    if name in ("open", "delete", "stat"):
+        return is_name(fields[2:] if name == "open" else fields)
+    return len(fields) >= 6 if name == "write" else len(fields) == exact[name]
+
+
 def response_to(m, response):
     """(name, fields) of the response, if it can be one to that request."""
     asked, answered = messages.unframed(m), messages.unframed(response)
     if not asked or not answered or asked[0] != answered[0] or len(response) > messages.MESSAGE_SIZE:
         raise Fault(f"{response.hex().upper()} is no response to {story.asked(m)}")
     name, fields = answered
+    if not can_be_accepted(m, *asked):
+        raise Fault(f"{story.asked(m)} cannot be accepted")
+    if name == "read" and len(fields) > number(asked[1][6:10]):
+        raise Fault(f"{len(fields)} bytes are answered to {story.asked(m)}")
     size_fits = len(fields) == RESPONSE_SIZES.get(name, len(fields)) and (len(response) > messages.HEADER_SIZE) == (RESPONSE_SIZES.get(name) != 0)
-    if not size_fits or name == "enumerate" and (fields[-1:] != b"\0" or fields.count(0) != 1):
+    if not size_fits or name == "enumerate" and not is_name(fields):
         raise Fault(f"{response.hex().upper()} has not the form of a response to {story.asked(m)}")
     return name, fields
 

@@ -49,24 +49,25 @@ def download(name, length=messages.SCAN_SIZE, session=0, clock=0):
 
 
 def reads(data, lines, source, name=None):
-    """(name, offset, bytes, whether the end was met, line) of each Read, of that name or of all; a refused Open or Read of it is a fault."""
-    opened = {}
+    """(name, offset, bytes, whether the end was met, line) of each Read, of that name or of all; a refused Open or Read of it is a fault, and so are
+    Reads between which what they read may have become another."""
+    opened, views = {}, {}
     for one in transcript.exchanges(data, lines, source):
-        framing = messages.unframed(one.message) if one.clock is not None else None
-        asked, fields = framing or (None, b"")
-        if asked == "open":
-            whose = story.shown_name(fields[2:-1])
-            if one.code == 0:
-                opened[number(one.fields)] = whose
-        elif asked == "read":
-            whose = opened.get(number(fields[:2]), "a session that was not opened here")
-        else:
-            continue
-        if name is not None and whose != name:
+        asked, fields = messages.unframed(one.message) or (None, b"") if one.clock is not None else (None, b"")
+        session = number(one.fields) if asked == "open" and one.code == 0 else number(fields[:2])
+        if asked == "open" and one.code == 0:
+            opened[session] = story.shown_name(fields[2:-1]), one.at
+        elif asked == "write" and one.code == 0 and session in opened:
+            opened[session] = opened[session][0], one.at
+        whose, view = opened.get(session, (f"session {session}, which was not opened here,", 0))
+        whose = story.shown_name(fields[2:-1]) if asked == "open" else whose
+        if asked not in ("open", "read") or name not in (None, whose):
             continue
         if one.code:
             raise Fault(f"{story.asked(one.message)}: {transcript.refusal(one.code)}", source, one.at)
         if asked == "read":
+            if views.setdefault(whose, view) != view:
+                raise Fault(f"what this Read reads was opened anew, or written, since another Read of {whose}", source, one.at)
             short = len(one.fields) < min(number(fields[6:10]), messages.READ_MOST)
             yield whose, number(fields[2:6]), one.fields, short, one.at
 
