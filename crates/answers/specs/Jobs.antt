@@ -33,10 +33,11 @@ use Rattle.rules.specs.Session.{onPart, onRow, onFound, onSession, rowFound}
 use Rattle.rules.specs.Respond.{Effect, effectOf, answered, respond, silent, jobOutcome}
 use Rattle.rules.specs.Laws.{job-is, status-set}
 use Rattle.rules.specs.Searches.{found-row, only-row}
-use Rattle.rules.specs.Change.{row-new, body-new}
+use Rattle.rules.specs.Change.{row-new}
 use Rattle.rules.specs.Examples.{done-code}
 use Rattle.rules.specs.Excluded.{afterCommit, HasJob, Tried, job-starts}
 use Rattle.guarantees.specs.Merging.{proper-row}
+use Rattle.guarantees.specs.After.{own-flash}
 use Rattle.guarantees.specs.Sessions.{asked-of}
 
 -- the session of row i is on verify or update
@@ -106,18 +107,13 @@ module _ (t i : ℕ) (c : Command) (s : State) (g : Sound s) (l : Live i s) (hig
       row-new s g i l (at (placeOf (blob i s)) .1 .0) (at (placeOf (blob i s)) .1 .1) (proper-row s g i l t c)
       ∙ ap (λ (p : Place). at p .1 .0) (place-flash (blob i s) high)
 
-  flash-out : onRow i t c s .1 .flashGroup ≡ out .1 .1
-  flash-out =
-      subst (λ (p : Place). inBody p .get (onRow i t c s .1) ≡ at p .1 .1) (place-flash (blob i s) high)
-      (body-new s g i l (at (placeOf (blob i s)) .1 .0) (at (placeOf (blob i s)) .1 .1) (proper-row s g i l t c))
-
 -- A COMMIT STARTS A JOB EXACTLY WHERE NONE WAS TRIED OR THE LAST ONE FAILED (rules 12.4 and 12.5)
 pub commit-starts : (t i : ℕ) (m : List ℕ) (s : State) → isSound s ≡ true → Live i s → OnJob i s → decoded m ≡ Commit (ident i s) 0 0 → Committed i s (respond t m s)
 unfolding answered
 commit-starts t i m s h l job d = record {
   accepted = ap (λ (o : Effect). o .code) says ∙ ap (λ (x : Reply). framed commitCommand x .0) (reply-out t i (commit 0 0) s g l high ∙ tried .0) ∙ done-code commitCommand;
   status-then = ap (λ (o : Effect). statusOf (inRow i .get (o .state))) says ∙ ap statusOf (row-out t i (commit 0 0) s g l high) ∙ tried .1;
-  phase-then = ap (λ (o : Effect). o .state .flashGroup .phase) says ∙ ap (λ (b : FlashBody). b .phase) (flash-out t i (commit 0 0) s g l high)
+  phase-then = ap (λ (o : Effect). o .state .flashGroup .phase) says ∙ ap (λ (b : FlashBody). b .phase) (own-flash s g i l t (commit 0 0) high)
       ∙ commit-phase t r (s .flashGroup) (kindOf (blob i s)) (kind .1) (flash-facts i s g l high .phased) ∙ kind .2;
 }
   where

@@ -114,10 +114,15 @@ module _ (v : ℕ) (l : Memory) where
 
     -- the library's answer is the C function's: the control block b stays
     pub report-fits : (code : ℕ) (b : Control) (tb : List ℕ) → isVerdict v ≡ true → b ≡ controlOf (l .control)
-        → record { code = code; response = []; state = stateOf b tb (l .names) (l .committed) (l .staged) (l .image) (l .hash) } ≡ jobOutcome (eqb v jobGood) (stateOf b (l .table) (l .names) (l .committed) (l .staged) (l .image) (l .hash))
+        → record { code = code; response = []; state = stateOf b tb (l .names) (l .committed) (l .staged) (l .image) (l .hash) }
+        ≡ jobOutcome (eqb v jobGood) (stateOf b (l .table) (l .names) (l .committed) (l .staged) (l .image) (l .hash))
         → record { code = code; memory = record { control = l .control; table = tb; names = l .names; committed = l .committed; staged = l .staged; image = l .image; hash = l .hash } } ≡ reported v l
     report-fits code b tb n e₁ e =
-        (λ j. record { code = code; memory = record { control = (sym (words-control (l .control) f) ∙ ap wordsOf (sym e₁)) j; table = tb; names = l .names; committed = l .committed; staged = l .staged; image = l .image; hash = l .hash } })
+        (λ j. record {
+          code = code;
+          memory = record
+              { control = (sym (words-control (l .control) f) ∙ ap wordsOf (sym e₁)) j; table = tb; names = l .names; committed = l .committed; staged = l .staged; image = l .image; hash = l .hash };
+        })
         ∙ ap reportedWith e
         ∙ ap (λ (x : Control). reportedWith (jobOutcome (eqb v jobGood) (stateOf x (l .table) (l .names) (l .committed) (l .staged) (l .image) (l .hash)))) e₁
         ∙ sym (report-is n)

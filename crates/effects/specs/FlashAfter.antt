@@ -11,7 +11,7 @@ use borrow.Author.Tests.{ne-eqb}
 use Rattle.protocol.specs.Numbers.{slotCount, imageSize, hashSize, verifyBlob, updateBlob, cleanupBlob, running, succeeded, failed, success, openCommand}
 use Rattle.protocol.specs.Names.{kindOf}
 use Rattle.protocol.specs.Cases.{each-at}
-use Rattle.protocol.specs.Decode.{numberOf, decoded}
+use Rattle.protocol.specs.Decode.{decoded}
 use Rattle.protocol.specs.Frame.{Reply, framed}
 use Rattle.protocol.specs.declared.FlashKind.{FlashKind}
 use Rattle.protocol.specs.declared.FlashKind.the-variants.{Image, Hash, Verify, Update, Cleanup}
@@ -26,9 +26,8 @@ use Rattle.state.specs.Words.{statusOf, ident, blob, Live}
 use Rattle.state.specs.Soundness.{isSound}
 use Rattle.state.specs.Facts.{Session}
 use Rattle.state.specs.Agree.{sound-of-test, place-flash}
-use Rattle.rules.specs.Command.{Command, commit, close}
+use Rattle.rules.specs.Command.{commit, close}
 use Rattle.rules.specs.Flash.{closedFlash, closeFlash, onFlash, commitFlash, commitKind}
-use Rattle.rules.specs.Session.{onPlace, onRow}
 use Rattle.rules.specs.Searches.{session-row}
 use Rattle.rules.specs.Respond.{Effect, answered, respond}
 use Rattle.rules.specs.Laws.{respond-is}
@@ -36,6 +35,7 @@ use Rattle.rules.specs.Sweep.{swept}
 use Rattle.rules.specs.Open.{openBlob, openFlash}
 use Rattle.rules.specs.Opening.{opened, openedFlash}
 use Rattle.rules.specs.OpenLaws.{open-flash-has}
+use Rattle.guarantees.specs.After.{own-flash, open-is}
 
 -- ---- the tables
 -- the flash in another phase, all else as it was
@@ -71,10 +71,6 @@ closed-is st b f low high =
     (each-at (λ (x : ℕ). closedFlash (kindOf (x + 16)) st f ≡ leftByClose (x + 16) st f) 5 (b - 16) (((((tt, refl), refl), refl), refl), refl) (omega arith))
 
 module _ (t i : ℕ) (m : List ℕ) (s : State) (h : isSound s ≡ true) (l : Live i s) (high : slotCount ≤ blob i s) where
-  -- what a command of the flash session leaves
-  flash-part : (c : Command) → onRow i t c s .1 .flashGroup ≡ onFlash (kindOf (blob i s)) t c (inRow i .get s) (s .flashGroup) .1 .1
-  flash-part c = ap (λ (p : Place). onPlace p i t c s .1 .flashGroup) (place-flash (blob i s) high)
-
   a-kind : blob i s ≤ cleanupBlob
   a-kind = subst (λ (p : Place). Session p (inRow i .get s) (inBody p .get s)) (place-flash (blob i s) high) (sound-of-test s h .session i l) .a-kind
 
@@ -85,7 +81,7 @@ module _ (t i : ℕ) (m : List ℕ) (s : State) (h : isSound s ≡ true) (l : Li
       ap (λ (o : Effect). o .state .flashGroup) (respond-is t m s h)
       ∙ ap (λ (q : Request). answered q t m s .1 .flashGroup) d
       ∙ ap (λ (o : Reply × State). o .1 .flashGroup) (session-row t i close s (sound-of-test s h) l)
-      ∙ flash-part close
+      ∙ own-flash s (sound-of-test s h) i l t close high
       ∙ ap (λ (y : Bool). closeFlash y (kindOf (blob i s)) (inRow i .get s) (s .flashGroup) .1 .1) (ne-eqb (statusOf (inRow i .get s)) running n)
       ∙ closed-is (statusOf (inRow i .get s)) (blob i s) (s .flashGroup) high a-kind
 
@@ -96,7 +92,7 @@ module _ (t i : ℕ) (m : List ℕ) (s : State) (h : isSound s ≡ true) (l : Li
       ap (λ (o : Effect). o .state .flashGroup) (respond-is t m s h)
       ∙ ap (λ (q : Request). answered q t m s .1 .flashGroup) d
       ∙ ap (λ (o : Reply × State). o .1 .flashGroup) (session-row t i (commit 0 0) s (sound-of-test s h) l)
-      ∙ flash-part (commit 0 0)
+      ∙ own-flash s (sound-of-test s h) i l t (commit 0 0) high
       ∙ ap (λ (b : ℕ). onFlash (kindOf b) t (commit 0 0) (inRow i .get s) (s .flashGroup) .1 .1) e
 
 -- ---- Open
@@ -119,11 +115,7 @@ open-emptied k flags t s = open-flash-has (Emptied k s) s (λ (code : ℕ) n e. 
 -- AN ACCEPTED OPEN OF A FLASH NAME LEAVES THE FLASH AS THE TABLE SAYS, after its sweep (rule 9.13)
 pub open-leaves : (t flags : ℕ) (k : FlashKind) (m : List ℕ) (s : State) → isSound s ≡ true → decoded m ≡ Open flags (Flash k) → respond t m s .code ≡ success
     → respond t m s .state .flashGroup ≡ leftByOpen k (swept t s .flashGroup)
-unfolding answered openBlob
+unfolding openBlob
 open-leaves t flags k m s h d a =
-    ap (λ (o : Effect). o .state .flashGroup) (respond-is t m s h)
-    ∙ ap (λ (q : Request). answered q t m s .1 .flashGroup) d
-    ∙ open-emptied k flags t (swept t s) (sym code-is ∙ a)
-  where
-    code-is : respond t m s .code ≡ framed openCommand (openFlash k flags t (swept t s) .0) .0
-    code-is = ap (λ (o : Effect). o .code) (respond-is t m s h) ∙ ap (λ (q : Request). framed (numberOf q) (answered q t m s .0) .0) d
+    let e = open-is t flags (Flash k) m s h d in
+    ap (λ (o : Effect). o .state .flashGroup) e ∙ open-emptied k flags t (swept t s) (sym (ap (λ (o : Effect). o .code) e) ∙ a)

@@ -9,11 +9,10 @@ use native.Mathlib.Omega.{arith}
 use Rattle.laws.specs.Bytes.{bytesOf}
 use Rattle.laws.specs.Ranges.{part}
 use Rattle.protocol.specs.Numbers.{rowCount, slotCount, notFound, readWrite, success, openCommand}
-use Rattle.protocol.specs.Decode.{numberOf, decoded}
+use Rattle.protocol.specs.Decode.{decoded}
 use Rattle.protocol.specs.Frame.{Reply, refused, framed}
 use Rattle.protocol.specs.declared.Blob.{Blob}
 use Rattle.protocol.specs.declared.Blob.the-variants.{Store, Flash, Base, Unknown}
-use Rattle.protocol.specs.declared.Request.{Request}
 use Rattle.protocol.specs.declared.Request.the-variants.{Open}
 use Rattle.state.specs.declared.row.Place.{Place}
 use Rattle.state.specs.declared.row.Place.the-variants.{AtSlot, AtFlash}
@@ -32,9 +31,9 @@ use Rattle.rules.specs.Open.{openBlob}
 use Rattle.rules.specs.Opening.{opened, newRow, heldSlot, newSlot, openedFlash}
 use Rattle.rules.specs.OpenLaws.{open-store-has, open-flash-has}
 use Rattle.rules.specs.Messages.{sent}
-use Rattle.rules.specs.Respond.{Effect, answered, respond}
-use Rattle.rules.specs.Laws.{respond-is}
+use Rattle.rules.specs.Respond.{Effect, effectOf, respond}
 use Rattle.guarantees.specs.Keep.{swept-sound}
+use Rattle.guarantees.specs.After.{open-is}
 
 -- ---- the sweep and the next identifier
 place-next : (p : Place) (r t : ℕ) (c : Command) (s : State) → onPlace p r t c s .1 .next ≡ s .next
@@ -90,24 +89,20 @@ blob-gives Base flags t m x = refused-gives x notFound (λ (e : notFound ≡ suc
 blob-gives Unknown flags t m x = refused-gives x notFound (λ (e : notFound ≡ success). omega arith)
 
 module _ (t flags : ℕ) (b : Blob) (m : List ℕ) (s : State) (h : isSound s ≡ true) (d : decoded m ≡ Open flags b) (ok : respond t m s .code ≡ success) where
-  open-is : respond t m s .state ≡ openBlob b flags t m (swept t s) .1
-  unfolding answered
-  open-is = ap (λ (o : Effect). o .state) (respond-is t m s h) ∙ ap (λ (q : Request). answered q t m s .1) d
+  is-open : respond t m s ≡ effectOf (framed openCommand (openBlob b flags t m (swept t s) .0)) (openBlob b flags t m (swept t s) .1)
+  is-open = open-is t flags b m s h d
 
   accepted : framed openCommand (openBlob b flags t m (swept t s) .0) .0 ≡ success
-  unfolding answered
-  accepted = sym (ap (λ (o : Effect). o .code) (respond-is t m s h) ∙ ap (λ (q : Request). framed (numberOf q) (answered q t m s .0) .0) d) ∙ ok
+  accepted = sym (ap (λ (o : Effect). o .code) is-open) ∙ ok
 
   given-is : freshId (swept t s) ≡ given t s
   given-is = ap (λ (n : ℕ). freshFrom rowCount n (swept t s)) (sweep-next t s)
 
   -- AN ACCEPTED OPEN GIVES THE FIRST UNUSED IDENTIFIER FROM "NEXT" ON, AND "NEXT" BECOMES ITS SUCCESSOR, whatever its sweep closed (rule 9.8)
   pub open-gives : (respond t m s .response ≡ sent openCommand (bytesOf 2 (given t s))) × (respond t m s .state .next ≡ after (given t s))
-  unfolding answered
   open-gives = let g = blob-gives b flags t m (swept t s) accepted in (
-    ap (λ (o : Effect). o .response) (respond-is t m s h)
-        ∙ ap (λ (q : Request). framed (numberOf q) (answered q t m s .0) .1) d ∙ g .0 ∙ ap (λ (n : ℕ). sent openCommand (bytesOf 2 n)) given-is,
-    ap (λ (x : State). x .next) open-is ∙ g .1 ∙ ap after given-is,
+    ap (λ (o : Effect). o .response) is-open ∙ g .0 ∙ ap (λ (n : ℕ). sent openCommand (bytesOf 2 n)) given-is,
+    ap (λ (o : Effect). o .state .next) is-open ∙ g .1 ∙ ap after given-is,
   )
 
 -- ---- a held name opened for writing
@@ -146,9 +141,10 @@ pub open-stages : (t at len k : ℕ) (m : List ℕ) (s : State) → isSound s �
     → slotNamed (part at len m) (swept t s) ≡ some k → Staged k (swept t s) (respond t m s .state)
 unfolding openBlob framed
 open-stages t at len k m s h d ok e =
-    subst (Staged k (swept t s)) (sym (open-is t readWrite (Store at len) m s h d ok))
+    subst (Staged k (swept t s)) (sym (ap (λ (o : Effect). o .state) (open-is t readWrite (Store at len) m s h d)))
     (open-store-has Holds x refuses (part at len m) readWrite t
-    (λ (r j : ℕ) _ q _ f a. let z : j ≡ k = cc in subst (λ (y : ℕ). Staged y x (opened (AtSlot j) r j readWrite 1 t (heldSlot readWrite (slotAt j x)) x .1)) z (opened-stages r j t x g (free-row x r f) (named-slot (part at len m) x j q .0)))
+    (λ (r j : ℕ) _ q _ f a. let z : j ≡ k = cc in subst (λ (y : ℕ). Staged y x (opened (AtSlot j) r j readWrite 1 t (heldSlot readWrite (slotAt j x)) x .1)) z
+    (opened-stages r j t x g (free-row x r f) (named-slot (part at len m) x j q .0)))
     (λ (r j : ℕ) _ q _ _ _ a. absurd (let z : _≡_ {A = ℕ} 0 1 = cc in omega arith))
     (accepted t readWrite (Store at len) m s h d ok))
   where

@@ -12,24 +12,22 @@ use Rattle.protocol.specs.Decode.{decoded}
 use Rattle.protocol.specs.Frame.{Reply}
 use Rattle.protocol.specs.declared.Request.{Request}
 use Rattle.protocol.specs.declared.Request.the-variants.{Write, Commit, Close}
-use Rattle.state.specs.declared.row.Place.{Place}
 use Rattle.state.specs.declared.row.Place.the-variants.{AtSlot}
 use Rattle.state.specs.declared.row.Wanted.the-variants.{Id}
-use Rattle.state.specs.State.{State, Row, Slot, inRow, inBody}
+use Rattle.state.specs.State.{State, Row, Slot, inRow, cell}
 use Rattle.state.specs.Parts.{row-view-fits, body-view-fits}
 use Rattle.state.specs.Words.{cleanOf, writes, ident, blob, Live}
 use Rattle.state.specs.Soundness.{slotAt, isSound}
 use Rattle.state.specs.Facts.{Sound}
-use Rattle.state.specs.Agree.{sound-of-test, place-slot}
+use Rattle.state.specs.Agree.{sound-of-test}
 use Rattle.rules.specs.Command.{Command, Out, write, commit, close}
-use Rattle.rules.specs.Store.{onStore, writeStore, stored, closedSlot, closedWriting}
-use Rattle.rules.specs.Session.{onPart, onPlace, onSession}
+use Rattle.rules.specs.Store.{onStore, stored, closedSlot, closedWriting}
+use Rattle.rules.specs.Session.{onSession}
 use Rattle.rules.specs.Searches.{session-row}
-use Rattle.rules.specs.Change.{row-new, body-new}
 use Rattle.rules.specs.Respond.{Effect, answered, respond}
-use Rattle.rules.specs.Effects.{commit-cleans as committed-clean}
-use Rattle.rules.specs.Laws.{respond-is, placed-fits}
-use Rattle.guarantees.specs.Merging.{proper-row}
+use Rattle.rules.specs.Effects.{write-accepted, commit-cleans as committed-clean}
+use Rattle.rules.specs.Laws.{respond-is}
+use Rattle.guarantees.specs.After.{own-part}
 
 -- what a Write of ws at the offset leaves: of the region only the addressed bytes change (rule 11.3), the length is the greater of itself and the end (rule 11.4), and
 -- what is committed stays
@@ -63,22 +61,17 @@ module _ (t i : ℕ) (m : List ℕ) (s : State) (h : isSound s ≡ true) (l : Li
   long = body-view-fits (AtSlot (blob i s)) s low (good .shape) .1 .staged-long
 
   module _ (c : Command) (asks : answered (decoded m) t m s ≡ onSession (Id (ident i s)) t c s) where
-    state-is : respond t m s .state ≡ onPlace (AtSlot (blob i s)) i t c s .1
-    state-is =
-        ap (λ (o : Effect). o .state) (respond-is t m s h) ∙ ap (λ (o : Reply × State). o .1) (asks ∙ session-row t i c s good l) ∙ ap (λ (p : Place). onPlace p i t c s .1) (place-slot (blob i s) low)
-
-    abbrev Part : Place → Type 0
-    Part p =
-        (inRow i .get (onPlace p i t c s .1) ≡ onPart p t c row (inBody p .get s) .1 .0) × (inBody p .get (onPlace p i t c s .1) ≡ onPart p t c row (inBody p .get s) .1 .1)
-
-    part-is : Part (AtSlot (blob i s))
-    part-is = subst Part (place-slot (blob i s) low) (row-new s good i l _ _ (proper-row s good i l t c), body-new s good i l _ _ (proper-row s good i l t c))
+    part-is : cell i (AtSlot (blob i s)) .get (respond t m s .state) ≡ onStore t c row slot .1
+    part-is =
+        ap (λ (o : Effect). cell i (AtSlot (blob i s)) .get (o .state)) (respond-is t m s h)
+        ∙ ap (λ (o : Reply × State). cell i (AtSlot (blob i s)) .get (o .1)) (asks ∙ session-row t i c s good l)
+        ∙ own-part s good i l t c low
 
     row-is : then-row ≡ onStore t c row slot .1 .0
-    row-is = ap (λ (x : State). inRow i .get x) state-is ∙ part-is .0
+    row-is = ap (λ (x : Row × Slot). x .0) part-is
 
     slot-is : then-slot ≡ onStore t c row slot .1 .1
-    slot-is = ap (λ (x : State). slotAt (blob i s) x) state-is ∙ part-is .1
+    slot-is = ap (λ (x : Row × Slot). x .1) part-is
 
   -- ---- Write
   stored-leaves : (ws : List ℕ) (offset : ℕ) → offset ≤ slot .stagedLen → offset + length ws ≤ slotSize → Written offset ws slot (stored t offset ws row slot .1 .1)
@@ -96,18 +89,13 @@ module _ (t i : ℕ) (m : List ℕ) (s : State) (h : isSound s ≡ true) (l : Li
     name-kept = (refl, refl);
   }
 
-  write-is : (offset : ℕ) (ws : List ℕ) → writes row ≡ true → offset ≤ slot .stagedLen → offset + length ws ≤ slotSize → onStore t (write offset ws) row slot ≡ stored t offset ws row slot
-  unfolding onStore writeStore
-  write-is offset ws wr fits end =
-      ap (λ (y : Bool). writeStore y t offset ws row slot) wr ∙ placed-fits slotSize (slot .stagedLen) offset (length ws) row slot (stored t offset ws row slot) fits end
-
   -- A WRITE THAT FITS LEAVES THE SLOT AS `Written` SAYS (rules 11.3 and 11.4)
   pub write-leaves : (offset start : ℕ) → decoded m ≡ Write (ident i s) offset start → writes row ≡ true → offset ≤ slot .stagedLen → offset + length (drop start m) ≤ slotSize
       → Written offset (drop start m) slot then-slot
   unfolding answered
   write-leaves offset start d wr fits end =
       subst (Written offset (drop start m) slot)
-      (sym (slot-is (write offset (drop start m)) (ap (λ (q : Request). answered q t m s) d) ∙ ap (λ (o : Out Slot). o .1 .1) (write-is offset (drop start m) wr fits end)))
+      (sym (slot-is (write offset (drop start m)) (ap (λ (q : Request). answered q t m s) d) ∙ ap (λ (o : Out Slot). o .1 .1) (write-accepted t offset (drop start m) row slot wr fits end)))
       (stored-leaves (drop start m) offset fits end)
 
   -- ---- Commit

@@ -8,6 +8,7 @@ pub mod FlashPromise
 pub mod Steps
 pub mod Fits
 pub mod Sessions
+pub mod After
 pub mod Answer
 pub mod Premises
 pub mod FlashHistory

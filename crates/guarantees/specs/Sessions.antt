@@ -18,17 +18,18 @@ use Rattle.state.specs.declared.row.Place.{Place}
 use Rattle.state.specs.declared.row.Place.the-variants.{AtSlot, AtFlash}
 use Rattle.state.specs.State.{State, Row, Slot, Body, placeOf, inRow, inBody, cell}
 use Rattle.state.specs.Parts.{FitsSlot, FitsRow, cell-get-put, row-view-fits, body-view-fits}
-use Rattle.state.specs.Words.{idOf, blobOf, statusOf, writes, ident, blob, Live, stamped, stampOf, statusIn}
+use Rattle.state.specs.Words.{idOf, blobOf, statusOf, ident, blob, Live, stamped, stampOf, statusIn}
 use Rattle.state.specs.Soundness.{slotAt, isSound}
 use Rattle.state.specs.Facts.{Session, Sound}
 use Rattle.state.specs.Agree.{sound-of-test, test-of-sound, place-slot}
-use Rattle.rules.specs.Store.{stored, writeStore, onStore, seenLength}
+use Rattle.rules.specs.Store.{stored, onStore, seenLength}
 use Rattle.rules.specs.Command.{Command, read, write, stat, close, Out}
 use Rattle.rules.specs.Flash.{closeFlash, onFlash}
 use Rattle.state.specs.declared.row.Wanted.the-variants.{Id}
 use Rattle.rules.specs.Session.{onPart, onPlace, onRow, onSession}
 use Rattle.rules.specs.Respond.{Effect, effectOf, answered, respond}
-use Rattle.rules.specs.Laws.{respond-is, placed-fits}
+use Rattle.rules.specs.Laws.{respond-is}
+use Rattle.rules.specs.Effects.{write-accepted}
 use Rattle.rules.specs.Searches.{session-row}
 use Rattle.rules.specs.Change.{Proper, row-new}
 use Rattle.rules.specs.Messages.{sent, askRead, askWrite, askClose, askSessionStat, thirtyTwoBits, writeMost, read-decoded, write-decoded, close-decoded, stat-decoded}
@@ -70,10 +71,6 @@ stored-on : (ws : List ℕ) (t offset : ℕ) (r : Row) (b : Slot) → (stored t 
 unfolding stored
 stored-on [] t offset r b = (refl, refl)
 stored-on (w ∷ ws) t offset r b = (refl, refl)
-
-accepts : (t offset : ℕ) (ws : List ℕ) (r : Row) (b : Slot) → writes r ≡ true → offset ≤ b .stagedLen → offset + length ws ≤ slotSize → onStore t (write offset ws) r b ≡ stored t offset ws r b
-unfolding onStore writeStore
-accepts t offset ws r b wr h l = ap (λ (y : Bool). writeStore y t offset ws r b) wr ∙ placed-fits slotSize (b .stagedLen) offset (length ws) r b (stored t offset ws r b) h l
 
 -- what a Write and a Read of the same bytes are answered
 pub record ReadBack (t u i offset : ℕ) (ws : List ℕ) (s : State) : Type 0 where
@@ -119,7 +116,7 @@ module _ (n t u i offset : ℕ) (ws : List ℕ) (s : State) (h : Writes n i s) (
   body-fits = body-view-fits (AtSlot (blob i s)) s (h .session .on-store) (g .shape)
 
   taken : out ≡ stored t offset ws r b
-  taken = accepts t offset ws r b (h .writing) (let e : seenLength true b ≡ n = sym (ap (λ (y : Bool). seenLength y b) (h .writing)) ∙ h .session .sees in omega arith) fits
+  taken = write-accepted t offset ws r b (h .writing) (let e : seenLength true b ≡ n = sym (ap (λ (y : Bool). seenLength y b) (h .writing)) ∙ h .session .sees in omega arith) fits
 
   taken-done : out .0 ≡ done
   taken-done = ap (λ (o : Out Slot). o .0) taken ∙ stored-on ws t offset r b .0

@@ -344,7 +344,8 @@ close-gone : (id t : ℕ) (s : State) → Sound s → framed closeCommand (onSes
 unfolding onSession framed
 close-gone id t s g = go (rowFound (Id id) s) refl
   where
-    go : (o : Option ℕ) → rowFound (Id id) s ≡ o → framed closeCommand (onFound o (Id id) t close s .0) .0 ≡ success → onSession (Id id) t close (onFound o (Id id) t close s .1) ≡ (refused notFound, onFound o (Id id) t close s .1)
+    go : (o : Option ℕ) → rowFound (Id id) s ≡ o → framed closeCommand (onFound o (Id id) t close s .0) .0 ≡ success
+        → onSession (Id id) t close (onFound o (Id id) t close s .1) ≡ (refused notFound, onFound o (Id id) t close s .1)
     go none e ok = absurd (omega arith)
     go (some r) e ok =
         let f = found-row (Id id) s r e in

@@ -52,11 +52,17 @@ clean-after t v r four small =
     (getD-set-other (withClean v r .words) 3 2 (max (stampOf (withClean v r)) t) 0 (omega arith) ∙ getD-set-same (r .words) 2 (wordWith (flagsIn (wordOf r)) (statusOf r) v) 0 (omega arith))
     ∙ clean-with (flagsIn (wordOf r)) (statusOf r) v (omega arith) (omega arith) small
 
--- of a store session that writes, where offset and end fit
+-- a Write that fits is stored, of a store session that writes
+pub write-accepted : (t offset : ℕ) (ws : List ℕ) (r : Row) (b : Slot) → writes r ≡ true → offset ≤ b .stagedLen → offset + length ws ≤ slotSize
+    → onStore t (write offset ws) r b ≡ stored t offset ws r b
+unfolding onStore writeStore
+write-accepted t offset ws r b w at fits =
+    ap (λ (y : Bool). writeStore y t offset ws r b) w ∙ placed-fits slotSize (b .stagedLen) offset (length ws) r b (stored t offset ws r b) at fits
+
+-- of such a session, where offset and end fit
 module _ (t offset : ℕ) (r : Row) (b : Slot) (w : writes r ≡ true) (at : offset ≤ b .stagedLen) (long : length (b .stagedBytes) ≡ slotSize) where
   accepted : (ws : List ℕ) → offset + length ws ≤ slotSize → onStore t (write offset ws) r b ≡ stored t offset ws r b
-  unfolding onStore writeStore
-  accepted ws fits = ap (λ (y : Bool). writeStore y t offset ws r b) w ∙ placed-fits slotSize (b .stagedLen) offset (length ws) r b (stored t offset ws r b) at fits
+  accepted ws fits = write-accepted t offset ws r b w at fits
 
   stored-wrote : (ws : List ℕ) → offset + length ws ≤ slotSize → Wrote offset ws (b .stagedBytes) (stored t offset ws r b .1 .1 .stagedBytes) (b .stagedLen) (stored t offset ws r b .1 .1 .stagedLen)
   unfolding stored

@@ -168,7 +168,8 @@ module _ (n : ℕ) (h : n ≤ slotSize) where
   first-row : (q : ℕ) → Live q one → inRow q .get one ≡ writingRow 0
   first-row q l = ap (λ (x : ℕ). inRow x .get one) (only-one q l) ∙ writer-row (scanName letterA) n
 
-  second-good : (p : Place) (row : Row) (body : Body p) → length (row .words) ≡ rowWords → row .used ≡ 1 → placeOf (blobOf row) ≡ p → Separate (AtSlot 0) p → FitsBody p body → Session p row body → idOf row ≢ 0 → NewName one p body
+  second-good : (p : Place) (row : Row) (body : Body p) → length (row .words) ≡ rowWords → row .used ≡ 1 → placeOf (blobOf row) ≡ p → Separate (AtSlot 0) p
+      → FitsBody p body → Session p row body → idOf row ≢ 0 → NewName one p body
       → Sound (cell 1 p .put (row, body) one)
   second-good p row body four on at apart fits ses id named =
       added-sound one (writer-good (scanName letterA) n name-a h) 1 (omega arith) (other-row (scanName letterA) n 1 (omega arith)) p row body four on at

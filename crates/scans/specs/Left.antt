@@ -43,9 +43,8 @@ use Rattle.guarantees.specs.StorePart.{freed-fits}
 use Rattle.guarantees.specs.Keep.{sweep-rows-sound, respond-sound}
 use Rattle.rules.specs.Committed.{sameName}
 use Rattle.scans.specs.Scan.{scanOf, asksToReplace}
-use Rattle.scans.specs.After.{own-part, other-slot}
+use Rattle.guarantees.specs.After.{own-part, other-slot, open-is}
 use Rattle.scans.specs.Safe.{event-leaves}
-use Rattle.scans.specs.Uploaded.{open-is}
 
 -- ---- Close and Open
 -- a message that does not ask to replace it leaves the scan, whatever it is answered

@@ -1,6 +1,5 @@
 -- The scan that is committed under a name: what leaves it alone, and what shows it.
 pub mod Scan
-pub mod After
 pub mod Safe
 pub mod Found
 pub mod Uploaded

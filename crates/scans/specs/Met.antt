@@ -50,9 +50,9 @@ use Rattle.guarantees.specs.FlashPromise.{run}
 use Rattle.guarantees.specs.Sessions.{asked-of}
 use Rattle.rules.specs.Committed.{sameName, hasName, commits}
 use Rattle.scans.specs.Scan.{scanOf, leftAlone, asksToReplace}
-use Rattle.scans.specs.After.{own-part, own-reply}
+use Rattle.guarantees.specs.After.{own-part, own-reply, open-is}
 use Rattle.scans.specs.Safe.{sweep-same}
-use Rattle.scans.specs.Uploaded.{open-is, found-there, commit-keeps, Uploaded, upload-shown}
+use Rattle.scans.specs.Uploaded.{found-there, commit-keeps, Uploaded, upload-shown}
 use Rattle.scans.specs.Left.{close-leaves, Gone, deleted-gone}
 
 -- ---- the messages

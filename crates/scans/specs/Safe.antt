@@ -50,7 +50,7 @@ use Rattle.guarantees.specs.Refusals.{leftBy, leftIn, refused-message}
 use Rattle.guarantees.specs.FlashPromise.{next, run, next-sound}
 use Rattle.rules.specs.Committed.{Scan, scanIn, sameName, hasName, committedAs, Alike, alike-eq, alike-then, alike-off, off-name, off-mark, Spares, staged-anew, leaves-store}
 use Rattle.scans.specs.Scan.{scanOf, onName, deletes, asksToReplace, replaces, leftAlone}
-use Rattle.scans.specs.After.{own-part, other-slot}
+use Rattle.guarantees.specs.After.{own-part, other-slot}
 
 -- where every slot has the same committed under a name, so has the state
 scan-same : (n : List ℕ) (s s′ : State) → ((k : ℕ) → k < slotCount → Alike n (slotAt k s) (slotAt k s′)) → scanOf n s′ ≡ scanOf n s

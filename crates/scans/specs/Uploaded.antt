@@ -9,11 +9,9 @@ use native.Mathlib.Omega.{arith}
 use Rattle.laws.specs.Bytes.{bytesOf, same, same-true, padded}
 use Rattle.laws.specs.Ranges.{part}
 use Rattle.protocol.specs.Numbers.{slotCount, nameSize, success, readOnly, openCommand, readCommand, commitCommand, sessionStatCommand, stateOpenRead, stateCommitted}
-use Rattle.protocol.specs.Decode.{decoded, numberOf}
+use Rattle.protocol.specs.Decode.{decoded}
 use Rattle.protocol.specs.Frame.{Reply, refused, done, reply, framed, statFields}
-use Rattle.protocol.specs.declared.Blob.{Blob}
 use Rattle.protocol.specs.declared.Blob.the-variants.{Store}
-use Rattle.protocol.specs.declared.Request.{Request}
 use Rattle.protocol.specs.declared.Request.the-variants.{Open, Read, Commit, SessionStat}
 use Rattle.state.specs.declared.row.Place.the-variants.{AtSlot}
 use Rattle.state.specs.State.{State, Row, Slot, inRow, cell}
@@ -31,7 +29,6 @@ use Rattle.rules.specs.Lookup.{slotNamed, freeRowIn, freshId}
 use Rattle.rules.specs.Opening.{newRow, opened, heldSlot}
 use Rattle.rules.specs.Open.{openStore, openBlob}
 use Rattle.rules.specs.Respond.{Effect, effectOf, answered, respond}
-use Rattle.rules.specs.Laws.{respond-is}
 use Rattle.rules.specs.OpenLaws.{open-store-has}
 use Rattle.rules.specs.Searches.{free-row}
 use Rattle.rules.specs.Messages.{sent}
@@ -41,7 +38,7 @@ use Rattle.guarantees.specs.FlashPromise.{run, run-sound}
 use Rattle.guarantees.specs.Sessions.{asked-of}
 use Rattle.rules.specs.Committed.{Scan, scanIn, sameName, hasName, commits}
 use Rattle.scans.specs.Scan.{scanOf, leftAlone}
-use Rattle.scans.specs.After.{own-part, own-reply}
+use Rattle.guarantees.specs.After.{own-part, own-reply, open-is}
 use Rattle.scans.specs.Safe.{committed-safe, sweep-same}
 use Rattle.scans.specs.Found.{committed-says, marked-held, named-at, scan-at, Stands, scan-slot}
 
@@ -180,12 +177,6 @@ module _ (x : Scan) (t r k : ℕ) (s : State) (g : Sound s) (free : freeRowIn s 
 
       there : blob r given < slotCount
       there = subst (λ (b : ℕ). b < slotCount) (sym blob-now) low
-
--- a message that asks for an Open, in a sound state
-pub open-is : (t flags : ℕ) (b : Blob) (m : List ℕ) (s : State) → isSound s ≡ true → decoded m ≡ Open flags b
-    → respond t m s ≡ effectOf (framed openCommand (openBlob b flags t m (swept t s) .0)) (openBlob b flags t m (swept t s) .1)
-unfolding answered
-open-is t flags b m s h d = respond-is t m s h ∙ ap (λ (q : Request). effectOf (framed (numberOf q) (answered q t m s .0)) (answered q t m s .1)) d
 
 -- an accepted Open has a reply
 abbrev Gives : Scan → Reply × State → Type 0
