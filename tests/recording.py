@@ -229,6 +229,8 @@ def bad_files():
         (folder / "loop").unlink()
         with open(folder / "story.txt", "rb") as story_file:
             done = subprocess.run([sys.executable, str(TOOL), "make", "-", "story.txt"], cwd=folder, stdin=story_file, capture_output=True, check=False)
+        closed = subprocess.run(["sh", "-c", '"$1" "$2" make - story.txt <&-', "sh", sys.executable, str(TOOL)], cwd=folder, capture_output=True, check=False)
+        expect("no standard input", (closed.returncode, closed.stderr), (1, b"standard input: cannot be read: Bad file descriptor\n"))
         expect("standard input that is the output", (done.returncode, done.stderr), (1, b"story.txt: is both read and written\n"))
         refused("standard input twice", "standard input can be read only once", "show", "-", "-", folder=folder)
         (folder / "same").hardlink_to(folder / "story.txt")

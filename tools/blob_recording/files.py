@@ -37,8 +37,11 @@ def check_paths(inputs, output=None):
     if output in (None, STANDARD) or not os.path.isfile(output):
         return
     for path in inputs:
-        read = 0 if path == STANDARD else path
-        if (path == STANDARD or os.path.exists(path)) and os.path.samestat(os.stat(read), os.stat(output)):
+        try:
+            read = os.stat(0 if path == STANDARD else path)
+        except OSError:
+            continue  # what cannot be read is told when it is read
+        if os.path.samestat(read, os.stat(output)):
             raise Fault("is both read and written", output)
 
 
