@@ -38,9 +38,9 @@ extern "C" {
 
 /* ---- Version: semantic. Before 1.0.0 a minor version may change what is here; docs/CHANGELOG.md says what. */
 #define KRAMSNEP_VERSION_MAJOR 0
-#define KRAMSNEP_VERSION_MINOR 1
+#define KRAMSNEP_VERSION_MINOR 2
 #define KRAMSNEP_VERSION_PATCH 0
-#define KRAMSNEP_VERSION "0.1.0"
+#define KRAMSNEP_VERSION "0.2.0"
 
 /* ---- Messages
  *
@@ -66,8 +66,8 @@ extern "C" {
 
 /* The CRC: a register of 16 bits starts at KRAMSNEP_CRC_START. Each byte is exclusive-ored into its upper half; then, eight times, the register
  * is shifted left by one, and the polynomial is exclusive-ored in if the bit that left was 1. The register at the end is the CRC.
- * The nine characters 123456789 give 0x29B1, no bytes 0xFFFF. */
-#define KRAMSNEP_CRC_START 0xFFFF
+ * The nine characters 123456789 give 0xE5CC, no bytes 0x1D0F. */
+#define KRAMSNEP_CRC_START 0x1D0F
 #define KRAMSNEP_CRC_POLYNOMIAL 0x1021
 
 /* The CRC of n bytes; bytes may be null where n is 0. */

@@ -120,7 +120,7 @@ def served(folder):
     answer = subprocess.run(words, capture_output=True, text=True, timeout=60, check=False)
     process.send_signal(signal.SIGTERM)
     ended(process, own)
-    expect("asked by the words that it says", answer.stdout.split() == "cf c2 00 00 31 4e 04 00 00 00".split(), answer)
+    expect("asked by the words that it says", answer.stdout.split() == "cf c2 00 00 e1 c4 04 00 00 00".split(), answer)
     print("ipmi, a controller to be asked by hand: answers, and is ended")
 
 

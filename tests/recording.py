@@ -61,9 +61,14 @@ def little(value, width):
     return value.to_bytes(width, "little")
 
 
+def crc(fields):
+    """The CRC of docs/PROTOCOL.md, by Python's own."""
+    return binascii.crc_hqx(fields, 0x1D0F)
+
+
 def framed(subcommand, fields=b""):
     """A message by the rules of docs/PROTOCOL.md, made without the tool."""
-    return b"\xcf\xc2\x00" + bytes([subcommand]) + (little(binascii.crc_hqx(fields, 0xFFFF), 2) + fields if fields else b"")
+    return b"\xcf\xc2\x00" + bytes([subcommand]) + (little(crc(fields), 2) + fields if fields else b"")
 
 
 def one_record(m, clock=7):
@@ -372,7 +377,7 @@ SHOWN = """\
  7 delete '/scan/a b' -> refused, code CB: no such blob or session
  7 writemeta 1 -> refused, code D5: this blob or session does not do that
  7 raw CFC2000B -> refused, code C1: no such subcommand
- 7 raw CFC20000FFFF -> refused, code C7: wrong length of the message or its body
+ 7 raw CFC200000F1D -> refused, code C7: wrong length of the message or its body
  7 raw CFC2000600000100 -> refused, code CC: wrong OEM number, CRC, form of name, flags or length byte
 """
 
@@ -423,7 +428,7 @@ def wrong_lines():
                    (3, 1, "enumerate 0", b"abc"), (1, 6, "close 0", bytes(2))]
     sizes = [(at, f"00 {framed(sub, fields).hex().upper()}", f"{framed(sub, fields).hex().upper()} has not the form of a response to {request}") for at, sub, request, fields in wrong_sizes]
     cases = [*sizes, (6, f"00 {longest}", f"{longest} is no response to read 1 0 58"), (0, "00", "an accepted request has a response, and a refused one has none"), (1, "CB CFC20006", "an accepted request has a response, and a refused one has none"),
-             (1, "00 CFC20005", "CFC20005 is no response to close 0"), (1, "00 CFC20006FFFF", "CFC20006FFFF has not the form of a response to close 0"),
+             (1, "00 CFC20005", "CFC20005 is no response to close 0"), (1, "00 CFC200060F1D", "CFC200060F1D has not the form of a response to close 0"),
              (2, right[2][:-1] + "1", f"{right[2][3:-1]}1 is no response to count"), (2, f"00 {short}", f"{short} has not the form of a response to count"),
              (3, f"00 {two}", f"{two} has not the form of a response to enumerate 0"), (1, "CUT", "CUT stands for a record that is whole"), (1, "cb", "no line of an answer: cb"),
              (1, "", "no line of an answer: "), (1, "00 CFC2000", "no line of an answer: 00 CFC2000")]
@@ -450,7 +455,7 @@ def wrong_lines():
 
 def impossible(folder):
     """Requests that no library accepts, and more bytes than were asked for."""
-    for request, answer, why in (("writemeta 0", framed(10), "writemeta 0 cannot be accepted"), ("raw CFC20006FFFF", framed(6), "raw CFC20006FFFF cannot be accepted"),
+    for request, answer, why in (("writemeta 0", framed(10), "writemeta 0 cannot be accepted"), ("raw CFC200060F1D", framed(6), "raw CFC200060F1D cannot be accepted"),
                                  (f"raw {framed(4, bytes(60)).hex()}", framed(4), f"raw {framed(4, bytes(60)).hex().upper()} cannot be accepted"), ("open '' 0003", framed(2, b"\0\0"), "open '' 0003 cannot be accepted"),
                                  (f"stat {'n' * 32}", framed(8, bytes(7)), f"stat {'n' * 32} cannot be accepted"), ("read 0 0 3", framed(3, b"abcd"), "4 bytes are answered to read 0 0 3"),
                                  ("enumerate 0", framed(1, b"\0"), f"{framed(1, bytes(1)).hex().upper()} has not the form of a response to enumerate 0"),
@@ -601,7 +606,7 @@ def not_stored(folder, client, begins, asked):
     begins()
     refused_files = [("fetch", "/scan/none", "open /scan/none 0001: refused, code CB: no such blob or session", client), ("store", "/scan/a", "which program asks? For example: ipmitool -H HOST -U USER -P PASSWORD raw", []),
                      ("store", "/scan/a", "none: cannot be run: No such file or directory", ["none"]), ("store", "/scan/a", "open /scan/a 0003: sh got no answer: no route", ["sh", "-c", "echo no route >&2; exit 1"]),
-                     ("store", "/scan/a", "open /scan/a 0003: true got no answer: nothing was printed", ["true"]), ("store", "/scan/a", "CFC20000314E04000000 is no response to open /scan/a 0003", ["sh", "-c", "echo cf c2 00 00 31 4e 04 00 00 00"]),
+                     ("store", "/scan/a", "open /scan/a 0003: true got no answer: nothing was printed", ["true"]), ("store", "/scan/a", "CFC20000E1C404000000 is no response to open /scan/a 0003", ["sh", "-c", "echo cf c2 00 00 e1 c4 04 00 00 00"]),
                      ("store", "/scan/a-b", "/scan/a-b: a name of the store is /scan/ and 1 to 25 letters or digits", client)]
     for command, name, why, program in refused_files:
         expect(f"{command} {name} by {program[:1]}", tool(command, name, "file", *program, folder=folder), (1, b"", why + "\n"))
@@ -630,10 +635,9 @@ def ipmitool():
 def ambiguous(chance):
     """Two responses of which the first fills its line, and the CRC of the first fits both of them together too. (The second is no Read: by the
     parity of this CRC there is none.)"""
-    first = framed(3, b"0123456789")
     for _ in range(1000000):
-        second = framed(8, chance.randbytes(7))
-        if binascii.crc_hqx(first[6:] + second, 0xFFFF) == int.from_bytes(first[4:6], "little"):
+        first, second = framed(3, chance.randbytes(10)), framed(8, chance.randbytes(7))
+        if crc(first[6:] + second) == int.from_bytes(first[4:6], "little"):
             return [f"00 {m.hex().upper()}" for m in (first, second)]
     return sys.exit("no two responses that could be one were found")
 
@@ -645,7 +649,7 @@ def wrong_for_ipmitool():
     unlike = "(channel=0x0 netfn=0x2e lun=0x0 cmd=0x80 rsp=0x0): Some words", "neither a response nor a completion code: "
     too_long = "\n".join(fake_ipmitool.printed(f"00 {framed(3, bytes(59)).hex()}").splitlines())
     printed = [(f"Unable to send RAW command {unlike[0]}", f"{unlike[1]}Unable to send RAW command {unlike[0]}"), ("Failed (rsp=0xcb)", f"{unlike[1]}Failed (rsp=0xcb)"),
-               (too_long, "no response: OEM number, subcommand, length or CRC is wrong"), ("cf c2 00", "no response: OEM number, subcommand, length or CRC is wrong"), (" cf c2 00 00 31 4e 04 00 00 01", "no response: OEM number, subcommand, length or CRC is wrong"),
+               (too_long, "no response: OEM number, subcommand, length or CRC is wrong"), ("cf c2 00", "no response: OEM number, subcommand, length or CRC is wrong"), (" cf c2 00 00 e1 c4 04 00 00 01", "no response: OEM number, subcommand, length or CRC is wrong"),
                ("Error: Unable to establish IPMI v2 / RMCP+ session", "neither a response nor a completion code: Error: Unable to establish IPMI v2 / RMCP+ session"),
                ("Unable to send RAW command (channel=0x0 netfn=0x2e lun=0x0 cmd=0x80)", "neither a response nor a completion code: Unable to send RAW command (channel=0x0 netfn=0x2e lun=0x0 cmd=0x80)"),
                ("".join(texts), "the response could end at several lines: put an empty line behind it")]

@@ -20,7 +20,7 @@ BODY = {COUNT: (0, 0), ENUMERATE: (6, 6), OPEN: (5, None), READ: (12, 12), WRITE
 
 
 def crc(data):
-    return binascii.crc_hqx(data, 0xFFFF)
+    return binascii.crc_hqx(data, 0x1D0F)
 
 
 def little(value, width):
@@ -145,7 +145,7 @@ def main():
     all_messages = list(messages())
     made = {"stdin": b"".join(bytes([len(m)]) + m for m in all_messages),
             "stdout": ("".join(responses()) + "".join(line(decode(m)) for m in all_messages)).encode()}
-    assert crc(b"123456789") == 0x29B1 and crc(b"") == 0xFFFF
+    assert crc(b"123456789") == 0xE5CC and crc(b"") == 0x1D0F
     assert len(made["stdin"]) <= 65536, "the program reads its input into one buffer"
     written.write_or_check("request_vectors", made)
     print(f"{len(all_messages)} messages, {len(made['stdin'])} bytes")

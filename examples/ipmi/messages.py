@@ -6,6 +6,7 @@ import random
 OEM = bytes([0xCF, 0xC2, 0x00])
 COMMANDS = ["count", "enumerate", "open", "read", "write", "commit", "close", "delete", "stat", "sessionstat", "writemeta"]
 WRITE_MOST, READ_MOST = 52, 58
+CRC_START = 0x1D0F
 
 # Bytes to upload, by name: of every value, and the same in each run.
 MADE = {"scan": random.Random(1).randbytes(4096), "greatest": random.Random(2).randbytes(16384), "image": random.Random(3).randbytes(10000)}
@@ -55,7 +56,7 @@ RESPONSES = {
 
 def framed(command, fields, empty=False):
     """Header, and CRC and fields where there are fields; the response to a Read has its CRC even when they are empty."""
-    crc = little(binascii.crc_hqx(fields, 0xFFFF), 2) if fields or empty else b""
+    crc = little(binascii.crc_hqx(fields, CRC_START), 2) if fields or empty else b""
     return OEM + bytes([COMMANDS.index(command)]) + crc + fields
 
 

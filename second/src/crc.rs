@@ -1,45 +1,50 @@
-//! The CRC (rules 2.1-2.4).
+//! The CRC, by the rental firm's rule (rule 2.6): the register starts with all bits set; each data bit, high bit first, is shifted in at its low end; then sixteen
+//! zero bits. The library's rule has another start and combines the data in at the top (rules 2.1 to 2.4), so that the two are independent.
 
 const POLYNOMIAL: u16 = 0x1021;
 const START: u16 = 0xFFFF;
 
-/// The 256 constants (rule 2.4).
-pub const TABLE: [u16; 256] = table();
+/// What eight bits combine in while they leave at the top: made bit by bit, and looked up for speed.
+const COMBINED_IN: [u16; 256] = combined_in();
 
-/// The CRC of the bytes; no bytes give 0xFFFF.
+/// The CRC of the bytes; no bytes give 0x1D0F.
 pub fn crc(bytes: &[u8]) -> u16 {
-    bytes.iter().fold(START, |register, byte| step(register, *byte))
+    let sixteen_zero_bits = [0, 0];
+    bytes.iter().chain(&sixteen_zero_bits).fold(START, |register, byte| byte_in(register, *byte))
 }
 
-fn step(register: u16, byte: u8) -> u16 {
-    let [high, low] = register.to_be_bytes();
-    let entry = TABLE.get(usize::from(high ^ byte)).copied().unwrap_or(0);
-    u16::from_be_bytes([low, 0]) ^ entry
+/// A byte comes in at the low end, and as many bits leave at the top.
+fn byte_in(register: u16, byte: u8) -> u16 {
+    let [leaving, kept] = register.to_be_bytes();
+    let combined_in = COMBINED_IN.get(usize::from(leaving)).copied().unwrap_or(0);
+    u16::from_be_bytes([kept, byte]) ^ combined_in
 }
 
-/// What eight steps make of a register that starts with this byte in its upper half (rules 2.1 and 2.4).
-pub const fn eight_shifts(entry: u8) -> u16 {
-    let mut register = u16::from_be_bytes([entry, 0]);
-    let mut shifts_left: u8 = 8;
-    while shifts_left > 0 {
-        let one_leaves = register & 0x8000 != 0;
-        register <<= 1;
-        if one_leaves {
-            register ^= POLYNOMIAL;
-        }
-        shifts_left = shifts_left.saturating_sub(1);
+/// A bit comes in at the low end; if a 1 leaves at the top, the polynomial is combined in.
+pub const fn bit_in(register: u16, bit: bool) -> u16 {
+    let one_leaves = register & 0x8000 != 0;
+    let shifted = register << 1 | bit as u16;
+    if one_leaves {
+        shifted ^ POLYNOMIAL
+    } else {
+        shifted
     }
-    register
 }
 
 /// Evaluated by the compiler only, so the index cannot fail at run time.
 #[allow(clippy::indexing_slicing, clippy::arithmetic_side_effects)]
-const fn table() -> [u16; 256] {
+const fn combined_in() -> [u16; 256] {
     let mut entries = [0; 256];
-    let mut entry = 0;
-    while entry < 256 {
-        entries[entry] = eight_shifts(entry as u8);
-        entry += 1;
+    let mut leaving = 0;
+    while leaving < 256 {
+        let mut register = u16::from_be_bytes([leaving as u8, 0]);
+        let mut bits = 0;
+        while bits < 8 {
+            register = bit_in(register, false);
+            bits += 1;
+        }
+        entries[leaving] = register;
+        leaving += 1;
     }
     entries
 }

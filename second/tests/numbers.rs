@@ -1,7 +1,7 @@
 //! The examples of docs/PROTOCOL.md and of document 01, four errors that are easily made, and each completion code
 //! (rules 7.1-7.11).
 
-use second::crc::{crc, eight_shifts, TABLE};
+use second::crc::{bit_in, crc};
 use second::harness::{self as h, Implementation, OwnedMemory, Second, OTHER};
 use second::state::{COMMITTED_LENGTHS, LAST_SWEEP, NEXT_IDENTIFIER, PHASE, STAGED_LENGTHS};
 
@@ -101,31 +101,31 @@ fn state_and_size(response: &[u8]) -> (u16, u32) {
 
 #[test]
 fn crc_numbers() {
-    assert_eq!(crc(b"123456789"), 0x29B1);
-    assert_eq!(crc(b""), 0xFFFF);
-    assert_eq!(TABLE[1], 0x1021);
-    for entry in 0..=255u8 {
-        assert_eq!(TABLE[usize::from(entry)], eight_shifts(entry));
-    }
+    assert_eq!(crc(b"123456789"), 0xE5CC);
+    assert_eq!(crc(b""), 0x1D0F);
 }
 
+/// The rental firm's rule bit by bit (rule 2.6), and the library's, with the data bits combined in at the top and the start value 0x1D0F (rules 2.1 to 2.3).
 #[test]
-fn crc_agrees_with_bit_by_bit() {
-    let bitwise = |bytes: &[u8]| {
-        let mut register: u32 = 0xFFFF;
-        for bit in bytes
+fn crc_agrees_with_both_rules_bit_by_bit() {
+    let bits = |bytes: &[u8]| -> Vec<bool> {
+        bytes
             .iter()
-            .flat_map(|byte| (0..8).rev().map(move |place| byte >> place & 1))
-        {
-            let leaves = register >> 15 & 1 ^ u32::from(bit);
-            register = (register << 1 & 0xFFFF) ^ (leaves * 0x1021);
-        }
-        register as u16
+            .flat_map(|byte| (0..8).rev().map(move |place| byte >> place & 1 == 1))
+            .collect()
+    };
+    let low_end = |bytes: &[u8]| bits(bytes).into_iter().chain([false; 16]).fold(0xFFFF, bit_in);
+    let top = |bytes: &[u8]| {
+        bits(bytes).into_iter().fold(0x1D0F, |register: u16, bit| {
+            let leaves = (register >> 15) ^ u16::from(bit);
+            (register << 1) ^ (leaves * 0x1021)
+        })
     };
     let mut random = h::Random::new(1);
     for length in 0..200 {
         let bytes = random.bytes(length);
-        assert_eq!(crc(&bytes), bitwise(&bytes));
+        assert_eq!(crc(&bytes), low_end(&bytes));
+        assert_eq!(crc(&bytes), top(&bytes));
     }
 }
 
@@ -150,7 +150,7 @@ fn reads_at_length_100() {
     assert_eq!(response[6..], [90, 91, 92, 93, 94, 95, 96, 97, 98, 99]);
     let (code, response) = cabinet.say(&h::read(session, 0, 100));
     assert_eq!((code, response.len()), (0, 6 + 58));
-    let empty = [0xCF, 0xC2, 0x00, 0x03, 0xFF, 0xFF];
+    let empty = [0xCF, 0xC2, 0x00, 0x03, 0x0F, 0x1D];
     for offset in [100, 101, 4096, u32::MAX] {
         let (code, response) = cabinet.say(&h::read(session, offset, 58));
         assert_eq!((code, &response[..]), (0, &empty[..]));

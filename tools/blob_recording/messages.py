@@ -5,6 +5,7 @@ OEM = b"\xcf\xc2\x00"
 # in the order of the subcommands (rule 1.4)
 NAMES = ["count", "enumerate", "open", "read", "write", "commit", "close", "delete", "stat", "sessionstat", "writemeta"]
 HEADER_SIZE = 4
+CRC_START = 0x1D0F
 MESSAGE_SIZE = 64
 WRITE_MOST = 52
 READ_MOST = 58
@@ -25,7 +26,8 @@ def number(data):
 
 
 def crc(data):
-    return binascii.crc_hqx(data, 0xFFFF)
+    """The CRC (rules 2.1 to 2.3)."""
+    return binascii.crc_hqx(data, CRC_START)
 
 
 def message(name, fields=b""):

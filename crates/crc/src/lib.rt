@@ -294,7 +294,7 @@ fn crc16_from(start: u16, s: &[u8]) -> u16
 }
 
 // What the register starts at.
-const START: u16 = 0xffff;
+const START: u16 = 0x1d0f;
 
 // The CRC of a slice's bytes.
 pub fn crc16(s: &[u8]) -> u16

@@ -12,6 +12,7 @@ use Rattle.laws.specs.All.{all, Or, this, that}
 use Rattle.laws.specs.Bytes.{little, bytesOf, same, firstZero}
 use Rattle.laws.specs.Ranges.{part, length-part}
 use Rattle.crc.specs.Crc.{shift, shifts, byteStep, crcFrom, crc}
+use Rattle.crc.specs.Worked.{nineDigits, digits, nothing}
 use Rattle.protocol.specs.Numbers.{success, outOfRange, tooLong, writeCommand, rowCount, slotCount, slotSize, running, notFound, countCommand, openCommand, readCommand, sixteenBits, readOnly, readWrite, sessionLife, sweepEvery}
 use Rattle.protocol.specs.Decode.{decoded, numberOf, asked, bodyFits, crcFits, withName, fieldsAt}
 use Rattle.protocol.specs.Frame.{Reply, refused, done, reply, Answer, framed, header}
@@ -83,15 +84,15 @@ Closed i t s y = (inRow i .get (swept t s) ≡ freeRow) × Or (inRow i .get y �
 -- THE STARRED NUMBERS
 pub record Starred : Type 0 where
   -- the CRC of the nine digits, and of no bytes (rule 2.5)
-  pub crc-digits : crc (0x31 ∷ 0x32 ∷ 0x33 ∷ 0x34 ∷ 0x35 ∷ 0x36 ∷ 0x37 ∷ 0x38 ∷ 0x39 ∷ []) ≡ 0x29B1
-  pub crc-nothing : crc [] ≡ 0xFFFF
+  pub crc-digits : crc nineDigits ≡ 0xE5CC
+  pub crc-nothing : crc [] ≡ 0x1D0F
   -- Fresh count is 4 (rule 8.6)
   pub fresh-count : (t : ℕ) → respond t (header countCommand) fresh ≡ record { code = success; response = sent countCommand (bytesOf 4 4); state = fresh }
   -- Reads of a session that sees 100 bytes: 10 of 58 near the end, 58 of 100, and none from the end on, whatever count is requested (rule 10.5)
   pub read-90 : (t i : ℕ) (s : State) → Sees 100 i s → Shows t (askRead (ident i s) 90 58) i 90 10 s
   pub read-0 : (t i : ℕ) (s : State) → Sees 100 i s → Shows t (askRead (ident i s) 0 100) i 0 58 s
   pub read-100 : (t i count : ℕ) (s : State) → Sees 100 i s → count < thirtyTwoBits
-      → (respond t (askRead (ident i s) 100 count) s .code ≡ success) × (respond t (askRead (ident i s) 100 count) s .response ≡ 0xCF ∷ 0xC2 ∷ 0x00 ∷ 0x03 ∷ 0xFF ∷ 0xFF ∷ [])
+      → (respond t (askRead (ident i s) 100 count) s .code ≡ success) × (respond t (askRead (ident i s) 100 count) s .response ≡ 0xCF ∷ 0xC2 ∷ 0x00 ∷ 0x03 ∷ 0x0F ∷ 0x1D ∷ [])
   -- Writes of 52 bytes by a session that has 4,060: up to the capacity, one past it, and past the length (rule 11.6)
   pub write-4044 : (t i : ℕ) (bytes : List ℕ) (s : State) → Writes 4060 i s → length bytes ≡ 52 → respond t (askWrite (ident i s) 4044 bytes) s .code ≡ success
   pub write-4045 : (t i : ℕ) (bytes : List ℕ) (s : State) → Writes 4060 i s → length bytes ≡ 52 → respond t (askWrite (ident i s) 4045 bytes) s .code ≡ tooLong
@@ -178,7 +179,7 @@ shows offset count t i s ho hc h =
     let y = reply-frame readCommand (part offset (readCount count offset 100) (bytesSeen i s)) in
     record { accepted = x .0 ∙ y .0; bytes = x .1 ∙ y .1; many = length-part offset (readCount count offset 100) (bytesSeen i s) (let z = seen-length 100 i s h in let w = slot-size in omega arith) }
 
-empty-frame : sent readCommand [] ≡ 0xCF ∷ 0xC2 ∷ 0x00 ∷ 0x03 ∷ 0xFF ∷ 0xFF ∷ []
+empty-frame : sent readCommand [] ≡ 0xCF ∷ 0xC2 ∷ 0x00 ∷ 0x03 ∷ 0x0F ∷ 0x1D ∷ []
 unfolding bytesOf crcFrom
 empty-frame = refl
 
@@ -304,14 +305,6 @@ base-refused flags t m s = refl
 swept-at : (t n flags : ℕ) (b : Blob) (m : List ℕ) (s : State) → isSound s ≡ true → decoded m ≡ Open flags b → swept t s .lastSweep ≡ n → respond t m s .state .lastSweep ≡ n
 swept-at t n flags b m s h d e = after-open t flags b m s h d 0 .sweep-kept ∙ e
 
-digits : crc (0x31 ∷ 0x32 ∷ 0x33 ∷ 0x34 ∷ 0x35 ∷ 0x36 ∷ 0x37 ∷ 0x38 ∷ 0x39 ∷ []) ≡ 0x29B1
-unfolding crcFrom byteStep shifts shift
-digits = refl
-
-no-bytes : crc [] ≡ 0xFFFF
-unfolding crcFrom
-no-bytes = refl
-
 -- ---- the states and messages that meet the premises
 writer-sees : (n : ℕ) → n ≤ slotSize → Writes n 0 (writer (scanName letterA) n)
 writer-sees n h = record {
@@ -345,7 +338,7 @@ open-base = refl
 pub starred : Starred
 starred = record {
   crc-digits = digits;
-  crc-nothing = no-bytes;
+  crc-nothing = nothing;
   fresh-count = fresh-counts;
   read-90 = λ (t i : ℕ) (s : State) (h : Sees 100 i s). shows 90 58 t i s (omega arith) (omega arith) h;
   read-0 = λ (t i : ℕ) (s : State) (h : Sees 100 i s). shows 0 100 t i s (omega arith) (omega arith) h;
