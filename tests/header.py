@@ -408,16 +408,17 @@ def comments():
 
 def crc():
     """The worked values of Worked.antt, which the comment says too, and random bytes against Python's own CRC."""
-    worked = re.findall(r"crc (\[\]|\([^)]*\)) ≡ (0x\w+)", text_of("crc/specs/Worked.antt"))
-    wanted = [(bytes(int(byte, 16) for byte in re.findall(r"0x(\w\w)", said)), int(result, 16)) for said, result in worked]
+    worked = text_of("crc/specs/Worked.antt")
+    digits = bytes(int(byte, 16) for byte in re.findall(r"0x(\w\w)", re.search(r"^nineDigits = (.*)$", worked, re.M)[1]))
+    results = dict(re.findall(r" : crc (nineDigits|\[\]) ≡ (0x\w+)", worked))
+    wanted = [(digits, int(results["nineDigits"], 16)), (b"", int(results["[]"], 16))]
     chance = random.Random(20261116)
     lengths = [*range(1, 130), 255, 256, 257, 1000, 4096, 5000]
     wanted += [(data, binascii.crc_hqx(data, spec_values()["start"])) for data in map(chance.randbytes, lengths)]
-    wanted.append((b"", spec_values()["start"]))
     body = "\n".join(f"    {{ const uint8_t b[] = {{{', '.join(map(str, data))}}}; printf(\"%u\\n\", kramsnep_crc(b, {len(data)})); }}" if data else '    printf("%u\\n", kramsnep_crc(NULL, 0));'
                      for data, _ in wanted)
     faults = [f"the CRC of {data.hex()} is {found}, not {right}" for (data, right), found in zip(wanted, map(int, run_c(body).split())) if found != right]
-    said = f"123456789 give 0x{wanted[0][1]:04X}, no bytes 0x{wanted[1][1]:04X}"
+    said = f"{digits.decode()} give 0x{wanted[0][1]:04X}, no bytes 0x{wanted[1][1]:04X}"
     return faults + ([] if said in HEADER.read_text(encoding="ascii") else [f"the header's comment does not say: {said}"])
 
 
