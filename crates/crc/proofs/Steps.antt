@@ -12,7 +12,7 @@ use lib.Seq.{take-suc}
 use lib.Pow.{split}
 use lib.Bits.{bitXor, xor-comm, xor-zero-r, xor-block, xor-shifted}
 use Rattle.crc.specs.Crc.{shifts, byteStep, crcFrom}
-use Rattle.crc.specs.Linear.{shifts-linear, low}
+use Rattle.crc.specs.Linear.{shifts-linear, eight-shifts-of-byte}
 
 -- ---- a step by the table is a step by the rule
 
@@ -20,7 +20,7 @@ pub table-step : (r b : ℕ) → bitXor (r * 256 % 0x10000) (shifts 8 (bitXor (r
 unfolding byteStep
 table-step r b =
     xor-comm (r * 256 % 0x10000) (shifts 8 (bitXor (r / 256) b * 256))
-    ∙ ap (bitXor (shifts 8 (bitXor (r / 256) b * 256))) (shl ∙ sym (low (r % 256) (mod-lt r (lit< tt))))
+    ∙ ap (bitXor (shifts 8 (bitXor (r / 256) b * 256))) (shl ∙ sym (eight-shifts-of-byte (r % 256) (mod-lt r (lit< tt))))
     ∙ sym (shifts-linear 8 (bitXor (r / 256) b * 256) (r % 256))
     ∙ ap (shifts 8) parts
   where

@@ -8,8 +8,8 @@ use native.Mathlib.Omega.{arith}
 use lib.ListN.{length, replicate}
 use lib.Bits.{bitXor, xor-comm, xor-zero-r, xor-shifted}
 use Rattle.crc.specs.Values.{agree}
-use Rattle.crc.specs.Crc.{poly, leaving, shift, shifts, byteStep, crcFrom, crc}
-use Rattle.crc.specs.Linear.{xor-assoc, shift-linear, shifts-linear, low}
+use Rattle.crc.specs.Crc.{poly, leaving, shift, shifts, byteStep, crcFrom, start, crc}
+use Rattle.crc.specs.Linear.{xor-assoc, shift-linear, shifts-linear, eight-shifts-of-byte}
 
 -- ---- the rule
 -- a bit comes in at the low end of the register of 16 bits, and its top bit leaves (rule 2.6)
@@ -24,9 +24,13 @@ bitsOf b = b / 128 % 2 ∷ b / 64 % 2 ∷ b / 32 % 2 ∷ b / 16 % 2 ∷ b / 8 % 
 unfoldable pub byteIn : (r byte : ℕ) → ℕ
 byteIn r b = foldl bitIn r (bitsOf b)
 
--- THE RENTAL FIRM'S CRC of a list of bytes: from all bits set, the bytes come in, then sixteen zero bits (rule 2.6)
+-- its register at the start: all bits set (rule 2.6)
+abbrev pub rentalStart : ℕ
+rentalStart = 0xffff
+
+-- THE RENTAL FIRM'S CRC of a list of bytes: they come in, then sixteen zero bits (rule 2.6)
 unfoldable pub rentalCrc : List ℕ → ℕ
-rentalCrc s = foldl bitIn (foldl byteIn 0xffff s) (replicate 16 0)
+rentalCrc s = foldl bitIn (foldl byteIn rentalStart s) (replicate 16 0)
 
 -- each number of a list is below a bound; a list of bytes is one below 256
 abbrev pub EachBelow : (bound : ℕ) → List ℕ → Type 0
@@ -98,7 +102,7 @@ unfolding byteStep
 byte-step r b h =
     ap (shifts 16) (byte-is r b h)
     ∙ shifts-linear 16 (shifts 8 r) b
-    ∙ ap₂ bitXor (shifts-add 8 16 r ∙ sym (shifts-add 16 8 r)) (sym (shifts-add 8 8 b) ∙ ap (shifts 8) (low b h))
+    ∙ ap₂ bitXor (shifts-add 8 16 r ∙ sym (shifts-add 16 8 r)) (sym (shifts-add 8 8 b) ∙ ap (shifts 8) (eight-shifts-of-byte b h))
     ∙ sym (shifts-linear 8 (shifts 16 r) (b * 256))
 
 bytes-step : (s : List ℕ) (r : ℕ) → EachBelow 256 s → shifts 16 (foldl byteIn r s) ≡ crcFrom (shifts 16 r) s
@@ -106,11 +110,12 @@ unfolding crcFrom
 bytes-step [] r h = refl
 bytes-step (b ∷ s) r h = bytes-step s (byteIn r b) (h .1) ∙ ap (λ (x : ℕ). crcFrom x s) (byte-step r b (h .0))
 
-started : shifts 16 0xffff ≡ 0x1d0f
+-- our start is what sixteen steps make of theirs
+started : shifts 16 rentalStart ≡ start
 unfolding shifts shift
 started = refl
 
 -- THE RENTAL FIRM'S CRC IS OURS, of every list of bytes, the empty one too (rule 2.6)
 pub rental-is : (s : List ℕ) → EachBelow 256 s → rentalCrc s ≡ crc s
 unfolding rentalCrc
-rental-is s h = zeros-in 16 (foldl byteIn 0xffff s) ∙ bytes-step s 0xffff h ∙ ap (λ (x : ℕ). crcFrom x s) started
+rental-is s h = zeros-in 16 (foldl byteIn rentalStart s) ∙ bytes-step s rentalStart h ∙ ap (λ (x : ℕ). crcFrom x s) started
