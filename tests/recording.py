@@ -634,7 +634,7 @@ def ipmitool():
 
 def ambiguous(chance):
     """Two responses of which the first fills its line, and the CRC of the first fits both of them together too. (The second is no Read: by the
-    parity of this CRC there is none.)"""
+    parity of this CRC there is none. Not every first has such a second, so both vary.)"""
     for _ in range(1000000):
         first, second = framed(3, chance.randbytes(10)), framed(8, chance.randbytes(7))
         if crc(first[6:] + second) == int.from_bytes(first[4:6], "little"):

@@ -21,7 +21,7 @@ fn byte_in(register: u16, byte: u8) -> u16 {
 }
 
 /// A bit comes in at the low end; if a 1 leaves at the top, the polynomial is combined in.
-pub const fn bit_in(register: u16, bit: bool) -> u16 {
+const fn bit_in(register: u16, bit: bool) -> u16 {
     let one_leaves = register & 0x8000 != 0;
     let shifted = register << 1 | bit as u16;
     if one_leaves {
@@ -31,19 +31,24 @@ pub const fn bit_in(register: u16, bit: bool) -> u16 {
     }
 }
 
+/// What eight zero bits make of a register that has these bits at its top and zeros below.
+const fn eight_zero_bits(leaving: u8) -> u16 {
+    let mut register = u16::from_be_bytes([leaving, 0]);
+    let mut bits_left: u8 = 8;
+    while bits_left > 0 {
+        register = bit_in(register, false);
+        bits_left = bits_left.saturating_sub(1);
+    }
+    register
+}
+
 /// Evaluated by the compiler only, so the index cannot fail at run time.
 #[allow(clippy::indexing_slicing, clippy::arithmetic_side_effects)]
 const fn combined_in() -> [u16; 256] {
     let mut entries = [0; 256];
     let mut leaving = 0;
     while leaving < 256 {
-        let mut register = u16::from_be_bytes([leaving as u8, 0]);
-        let mut bits = 0;
-        while bits < 8 {
-            register = bit_in(register, false);
-            bits += 1;
-        }
-        entries[leaving] = register;
+        entries[leaving] = eight_zero_bits(leaving as u8);
         leaving += 1;
     }
     entries
