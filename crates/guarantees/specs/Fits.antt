@@ -36,7 +36,7 @@ use Rattle.rules.specs.Sweep.{swept}
 use Rattle.rules.specs.Open.{openStore, openFlash, openBlob}
 use Rattle.rules.specs.Listing.{only, listedFlash, committedNames, flashNames, listed, enumerated, count}
 use Rattle.rules.specs.Respond.{Effect, effectOf, unsound, answered, respond}
-use Rattle.guarantees.specs.Naming.{name-bound}
+use Rattle.protocol.specs.Sizes.{name-size}
 use Rattle.rules.specs.Laws.{cond-has, placed-has, some-has, none-has, whether-has}
 use Rattle.rules.specs.Lookup.{slotNamed}
 use Rattle.rules.specs.Opening.{opened, flashListed, heldSlot, newSlot, openedFlash}
@@ -272,7 +272,7 @@ at-short (n ∷ ns) zero h = h .0
 at-short (n ∷ ns) (suc i) h = at-short ns i (h .1)
 
 short-enumerated : (i : ℕ) (s : State) → Short (enumerated i s)
-short-enumerated i s = cond-has Short (ltb i (count s)) (reply (getD (listed s) i [] ++ (0 ∷ []))) (refused outOfRange) (rw length-append (let h = at-short (listed s) i (names-listed s) in let e = name-bound in omega arith)) tt
+short-enumerated i s = cond-has Short (ltb i (count s)) (reply (getD (listed s) i [] ++ (0 ∷ []))) (refused outOfRange) (rw length-append (let h = at-short (listed s) i (names-listed s) in let e = name-size in omega arith)) tt
 
 -- the reply to every request is short
 pub short-answered : (q : Request) (t : ℕ) (m : List ℕ) (s : State) → Short (answered q t m s .0)

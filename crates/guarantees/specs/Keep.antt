@@ -47,7 +47,7 @@ use Rattle.guarantees.specs.StorePart.{freed-fits}
 use Rattle.guarantees.specs.FlashPart.{uploading-not-idle}
 use Rattle.rules.specs.Identifiers.{after-small, fresh-small, fresh-unused}
 use Rattle.protocol.specs.Inside.{BlobInside, Inside, decoded-inside}
-use Rattle.guarantees.specs.Naming.{field-of-name}
+use Rattle.protocol.specs.Naming.{field-of-name}
 use Rattle.rules.specs.Searches.{free-row, free-slot, named-slot, no-name, no-row-on, no-flash-row, found-live}
 use Rattle.rules.specs.Lookup.{slotNamed, freeRowIn, freeSlotIn, after, freshId}
 use Rattle.rules.specs.Opening.{newRow, opened, newSlot, heldSlot, flashListed, openedFlash}

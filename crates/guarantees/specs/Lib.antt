@@ -1,7 +1,6 @@
 pub mod StorePart
 pub mod FlashPart
 pub mod Merging
-pub mod Naming
 pub mod Keep
 pub mod Refusals
 pub mod FlashPromise

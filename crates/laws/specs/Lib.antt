@@ -7,3 +7,4 @@ pub mod Find
 pub mod Bytes
 pub mod Pigeon
 pub mod Masks
+pub mod Fronts

@@ -3,7 +3,7 @@ use mathlib.Core.Path.{_≡_, refl, sym, _∙_, ap}
 use mathlib.Core.Bool.{Bool, true, false, cond}
 use mathlib.Core.Option.{none, some}
 use Prim.Native.Nat.{ℕ, zero, suc, _+_, _*_, _-_, _/_, _%_, _^_, _≤_, _<_}
-use native.Mathlib.Nat.{pow-suc, mod-lt, le-of-suc-le-suc, not-suc-le-zero}
+use native.Mathlib.Nat.{add-zero, add-suc, pow-suc, mod-lt, le-of-suc-le-suc, not-suc-le-zero}
 use native.Mathlib.Omega.{arith}
 use lib.Dec.{eqb, ltb}
 use lib.Pow.{pow-pos, pow-lt}
@@ -105,6 +105,11 @@ pub ones-more : (n m : ℕ) → onesIn (suc n) m ≡ onesIn n m + bit n m
 unfolding onesIn
 ones-more zero m = omega arith
 ones-more (suc n) m = let e = ones-more n (m / 2) in ap (λ (x : ℕ). m % 2 + x) e ∙ omega arith
+
+-- no fewer among more places
+pub ones-mono : (n d m : ℕ) → onesIn n m ≤ onesIn (n + d) m
+ones-mono n zero m = rw add-zero (omega arith)
+ones-mono n (suc d) m = rw add-suc (omega (arith, ones-mono n d m, ones-more (n + d) m))
 
 -- a mask of k places has all its set bits there
 pub ones-in : (k m : ℕ) → m < 2 ^ k → onesIn k m ≡ ones m

@@ -7,17 +7,21 @@ use Prim.Native.Nat.{ℕ, zero, suc, _+_, _-_, _≤_, _<_}
 use native.Mathlib.Numerals.{add-one}
 use native.Mathlib.Omega.{arith}
 use native.Mathlib.Decide.{decLt}
+use lib.Count.{ones, onesIn}
 use lib.Dec.{eqb}
 use borrow.Author.Tests.{eq-eqb}
 use lib.ListN.{length, getD, replicate, List·getD-eq-default, List·getD-append, getD-replicate}
 use lib.Seq.{getD-take, getD-append-add}
 use Rattle.laws.specs.All.{all}
 use Rattle.laws.specs.Ranges.{part, length-part}
+use Rattle.laws.specs.Bits.{bit, bit-lt}
 use Rattle.laws.specs.Bytes.{same, padded}
+use Rattle.laws.specs.Masks.{ones-more, ones-in}
+use Rattle.protocol.specs.Numbers.{slotCount, sixteenBits}
 use Rattle.state.specs.State.{State, Rows, inSessions}
 use Rattle.state.specs.declared.row.Wanted.the-variants.{Id}
 use Rattle.rules.specs.Session.{rowFound}
-use Rattle.lookup.specs.Search.{isNone}
+use Rattle.lookup.specs.Search.{isNone, Nth}
 use Rattle.rules.specs.Lookup.{after, unless, freshFrom}
 
 -- ---- equal lists, byte by byte
@@ -75,3 +79,17 @@ pub fresh-same : (n id : ℕ) (x : Rows) (s s′ : State) → freshFrom n id (in
 unfolding freshFrom rowFound
 fresh-same zero id x s s′ = refl
 fresh-same (suc n) id x s s′ = ap (unless (rowFound (Id id) (inSessions .put x s)) id) (fresh-same n (after id) x s s′)
+
+-- ---- the search for the bit number i: its start, and its end at the last place
+pub ones-start : (m : ℕ) → onesIn 0 m ≡ 0
+unfolding onesIn
+ones-start m = refl
+
+one-more : (a b t i : ℕ) → a + b ≡ t → a ≤ i → i < t → b < 2 → (b ≡ 1) × (a ≡ i)
+one-more a b t i e h l q = (omega arith, omega arith)
+
+pub nth-last : (m i k : ℕ) → m < sixteenBits → i < ones m → suc k ≡ slotCount → onesIn k m ≤ i → Nth m i k
+nth-last m i k h l e q =
+    let t : onesIn k m + bit k m ≡ ones m = sym (ones-more k m) ∙ ap (λ (n : ℕ). onesIn n m) e ∙ ones-in slotCount m h in
+    let p = one-more (onesIn k m) (bit k m) (ones m) i t q l (bit-lt k m) in
+    record { low = omega arith; is-set = p .0; below = p .1 }

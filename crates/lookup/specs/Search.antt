@@ -4,6 +4,8 @@ use mathlib.Core.Bool.{Bool, true, false}
 use mathlib.Core.List.{List}
 use mathlib.Core.Option.{Option, none, some}
 use Prim.Native.Nat.{ℕ, _<_}
+use lib.Count.{onesIn}
+use Rattle.laws.specs.Bits.{bit}
 use Rattle.laws.specs.Find.{first}
 use Rattle.laws.specs.Masks.{clear}
 use Rattle.protocol.specs.Numbers.{rowCount, slotCount}
@@ -51,3 +53,9 @@ free-row s = refl
 pub free-slot : (s : State) → freeSlotIn s ≡ first (clear (s .store .slots)) slotCount
 unfolding freeSlotIn
 free-slot s = refl
+
+-- k is the set bit of the mask m with i set bits below it
+pub record Nth (m i k : ℕ) : Type 0 where
+  pub low : k < slotCount
+  pub is-set : bit k m ≡ 1
+  pub below : onesIn k m ≡ i

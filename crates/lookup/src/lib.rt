@@ -1,6 +1,7 @@
-// What is looked up: the row of a session, the slot of a store name, the identifier for a new session. (Free places: `state::mask::lowest_free`.)
+// What is looked up: the row of a session, the slot of a store name, the set bit of a number, the identifier for a new session. (Free places: `state::mask::lowest_free`.)
 ghost use mathlib.Core.Path.{_≡_};
 ghost use Prim.Native.Nat.{ℕ, _+_, _*_, _≤_, _<_};
+ghost use lib.Count.{ones};
 ghost use lib.ListN.{length, getD};
 ghost use Rattle.laws.specs.Ranges.{part, block};
 ghost use Rattle.laws.specs.Bytes.{padded, same};
@@ -10,7 +11,7 @@ ghost use Rattle.state.specs.Entry.{wordsOf};
 ghost use Rattle.state.specs.State.{State, withRows, withNames};
 ghost use Rattle.state.specs.Lent.{TableLent, NamesLent};
 ghost use Rattle.rules.specs.Session.{matches, wanted, rowFound};
-ghost use Rattle.lookup.specs.Search.{isNone, FoundRow, FoundName};
+ghost use Rattle.lookup.specs.Search.{isNone, FoundRow, FoundName, Nth};
 ghost use Rattle.rules.specs.Lookup.{holds, after, freshFrom};
 use state::NAME_SIZE;
 use state::ROWS;
@@ -142,4 +143,23 @@ pub fn fresh_id(table: &[u32], rows: u32, next: u32) -> u32
         i += 1;
     }
     id
+}
+
+// The set bit of a mask that has i set bits below it.
+pub fn nth_set(mask: u32, i: u32) -> usize
+    requires { ⌜ (mask < sixteenBits) × (i < ones mask) ⌝ }
+    ensures { λ k. ⌜ Nth mask i k ⌝ }
+{
+    let mut seen: u32 = 0;
+    let mut k: usize = 0;
+    while k < SLOTS - 1 {
+        if has(mask, k) {
+            if seen == i {
+                return k;
+            }
+            seen += 1;
+        }
+        k += 1;
+    }
+    k
 }

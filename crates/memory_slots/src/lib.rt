@@ -54,6 +54,17 @@ pub fn put_name(names: &mut [u8], k: usize, message: &[u8], start: usize, len: u
     clear_at(names, at + len, NAME_SIZE - len)
 }
 
+// Slot k's region of dst becomes the len bytes that stand in src from `start` on, padded by zeros.
+pub fn put_region(dst: &mut [u8], k: usize, src: &[u8], start: usize, len: usize)
+    requires { ⌜ RegionsLent (now dst) × ((k < slotCount) × ((len ≤ slotSize) × (start + len ≤ length (now src)))) ⌝ }
+    ensures { λ _. ⌜ now (dst .exit) ≡ block slotSize k .put (padded slotSize (part start len (now (src .entry)))) (now (dst .entry)) ⌝ }
+{
+    let at = k * SLOT_SIZE;
+    let end = start + len;
+    copy_at(dst, at, &src[start..end]);
+    clear_at(dst, at + len, SLOT_SIZE - len)
+}
+
 // Slot k becomes free: its name, its marks, its lengths and both regions are zeroed.
 pub fn free_slot(
     k: usize,

@@ -2,20 +2,20 @@
 use mathlib.Core.Path.{_≡_, refl, sym, _∙_, ap}
 use mathlib.Core.Bool.{Bool, true, false, cond}
 use mathlib.Core.List.{List, [], _∷_, _++_, append-nil}
-use Prim.Native.Nat.{ℕ, zero, suc, _+_, _*_, _-_, _≤_, _<_}
-use native.Mathlib.Nat.{add-zero, add-suc, min-le-left}
+use Prim.Native.Nat.{ℕ, zero, suc, _+_, _-_, _≤_, _<_}
+use native.Mathlib.Nat.{add-zero, add-suc}
 use native.Mathlib.Numerals.{add-one}
 use native.Mathlib.Omega.{arith}
 use native.Mathlib.Decide.{decLt}
 use lib.Count.{ones, onesIn}
 use lib.Dec.{eqb, ltb}
 use borrow.Author.Tests.{ne-eqb, lt-ltb, le-ltb}
-use lib.ListN.{length, getD, set, take, drop, length-take, length-append, List·getD-append}
-use lib.Seq.{sets, take-take, getD-append-add, getD-append-seam}
-use Rattle.laws.specs.Ranges.{part, block, part-sets, sets-append}
-use Rattle.laws.specs.Bits.{bit, bit-lt}
-use Rattle.laws.specs.Bytes.{text, firstZero}
-use Rattle.laws.specs.Masks.{ones-more, ones-in}
+use lib.ListN.{length, getD, set, length-append, List·getD-append}
+use lib.Seq.{sets, getD-append-add, getD-append-seam}
+use Rattle.laws.specs.Ranges.{part, part-sets, sets-append}
+use Rattle.laws.specs.Bits.{bit}
+use Rattle.laws.specs.Bytes.{text}
+use Rattle.laws.specs.Masks.{ones-more, ones-in, ones-mono}
 use Rattle.protocol.specs.Numbers.{slotCount, sixteenBits, outOfRange, imageBlob, cleanupBlob}
 use Rattle.protocol.specs.Names.{base, flashName, kindOf}
 use Rattle.protocol.specs.Frame.{Reply, refused, reply}
@@ -25,28 +25,11 @@ use Rattle.state.specs.Soundness.{slotAt}
 use Rattle.rules.specs.Listing.{only, committedNames, flashNames, listed, enumerated}
 use Rattle.rules.specs.Counting.{flashCount, committed-count}
 use Rattle.name_list.specs.declared.Listed.the-variants.{Base, Slot, Flash, Outside}
-use Rattle.name_list.specs.Listed.{Nth, flashAt, InStore, listedReply, flashKinds, behind, namesFrom, flashFrom}
+use Rattle.lookup.specs.Search.{Nth}
+use Rattle.name_list.specs.Listed.{flashAt, InStore, listedReply, flashKinds, behind, namesFrom, flashFrom}
 use Rattle.rules.specs.Opening.{flashListed}
 
--- ---- the search for the bit number i: its start, and its end at the last place
-pub ones-start : (m : ℕ) → onesIn 0 m ≡ 0
-unfolding onesIn
-ones-start m = refl
-
-one-more : (a b t i : ℕ) → a + b ≡ t → a ≤ i → i < t → b < 2 → (b ≡ 1) × (a ≡ i)
-one-more a b t i e h l q = (omega arith, omega arith)
-
-pub nth-last : (m i k : ℕ) → m < sixteenBits → i < ones m → suc k ≡ slotCount → onesIn k m ≤ i → Nth m i k
-nth-last m i k h l e q =
-    let t : onesIn k m + bit k m ≡ ones m = sym (ones-more k m) ∙ ap (λ (n : ℕ). onesIn n m) e ∙ ones-in slotCount m h in
-    let p = one-more (onesIn k m) (bit k m) (ones m) i t q l (bit-lt k m) in
-    record { low = omega arith; is-set = p .0; below = p .1 }
-
 -- ---- the committed names by number
-ones-mono : (n d m : ℕ) → onesIn n m ≤ onesIn (n + d) m
-ones-mono n zero m = rw add-zero (omega arith)
-ones-mono n (suc d) m = rw add-suc (omega (arith, ones-mono n d m, ones-more (n + d) m))
-
 only-set : (b : ℕ) (n : List ℕ) → b ≡ 1 → only (eqb b 1) n ≡ n ∷ []
 only-set b n h = rw h
 
@@ -224,23 +207,3 @@ pub name-read : (a x : List ℕ) (at : ℕ) → at + length x < length a → par
 name-read a x at h =
     let e : length x + 1 ≡ length (x ++ (0 ∷ [])) = sym (length-append x (0 ∷ [])) in
     ap (λ (n : ℕ). part at n (sets a at (x ++ (0 ∷ [])))) e ∙ part-sets (x ++ (0 ∷ [])) a at (omega arith)
-
--- ---- the front of a slot's name field; the code knows the field's size n as the number m, and lends parts by their ends
-module _ (n m : ℕ) (size : n ≡ m) (k : ℕ) (names : List ℕ) where
-  pub field-lent : take (k * m + m - k * m) (drop (k * m) names) ≡ block n k .get names
-  field-lent =
-      let e : k * m + m - k * m ≡ m = omega arith in
-      ap (λ (j : ℕ). take j (drop (k * m) names)) e ∙ ap (λ (j : ℕ). part (k * j) j names) (sym size)
-
-  pub front-short : (z : ℕ) → z ≤ n → length (take (k * m + z - k * m) (drop (k * m) names)) ≤ n
-  front-short z h =
-      let q : k * m + z - k * m ≡ z = omega arith in
-      rw (q, length-take) (omega (arith, min-le-left z (length (drop (k * m) names))))
-
-  pub front-lent : (z : ℕ) → z ≡ firstZero (block n k .get names) → z ≤ n → take (k * m + z - k * m) (drop (k * m) names) ≡ text (block n k .get names)
-  front-lent z e h =
-      let q : k * m + z - k * m ≡ z = omega arith in
-      ap (λ (j : ℕ). take j (drop (k * m) names)) q
-      ∙ ap (λ (j : ℕ). take z (drop (k * j) names)) (sym size)
-      ∙ sym (take-take z n (drop (k * n) names) h)
-      ∙ ap (λ (j : ℕ). take j (part (k * n) n names)) e

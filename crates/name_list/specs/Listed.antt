@@ -3,10 +3,8 @@ use mathlib.Core.Path.{_≡_}
 use mathlib.Core.Bool.{cond}
 use mathlib.Core.List.{List, [], _∷_, _++_}
 use Prim.Native.Nat.{ℕ, zero, suc, _+_, _-_, _≤_, _<_}
-use lib.Count.{onesIn}
 use lib.Dec.{eqb}
 use Rattle.laws.specs.Ranges.{block}
-use Rattle.laws.specs.Bits.{bit}
 use Rattle.laws.specs.Bytes.{text}
 use Rattle.protocol.specs.Numbers.{slotCount, nameSize, readMost, outOfRange, imageBlob}
 use Rattle.protocol.specs.Names.{base, flashName, kindOf}
@@ -18,12 +16,6 @@ use Rattle.response_types.specs.declared.Said.{Said}
 use Rattle.name_list.specs.declared.Listed.{Listed}
 use Rattle.name_list.specs.declared.Listed.the-variants.{Base, Slot, Flash, Outside}
 use Rattle.rules.specs.Opening.{flashListed}
-
--- k is the set bit of the mask m with i set bits below it
-pub record Nth (m i k : ℕ) : Type 0 where
-  pub low : k < slotCount
-  pub is-set : bit k m ≡ 1
-  pub below : onesIn k m ≡ i
 
 -- how many flash names there are; their blob numbers follow one another, from image's on
 abbrev pub flashKinds : ℕ

@@ -2,7 +2,6 @@
 ghost use mathlib.Core.Path.{_≡_};
 ghost use mathlib.Core.List.{List, [], _∷_, _++_};
 ghost use Prim.Native.Nat.{ℕ, _*_, _<_, _≤_};
-ghost use lib.Count.{ones};
 ghost use lib.ListN.{length};
 ghost use Rattle.laws.specs.Ranges.{block};
 ghost use Rattle.laws.specs.Bytes.{text};
@@ -14,7 +13,8 @@ ghost use Rattle.state.specs.Lent.{NamesLent, AnswerLent};
 ghost use Rattle.rules.specs.Counting.{flashCount};
 ghost use Rattle.rules.specs.Listing.{counted, enumerated};
 ghost use Rattle.response_types.specs.After.{replyOf};
-ghost use Rattle.name_list.specs.Listed.{Nth, flashAt, InStore, listedReply, Answers};
+ghost use Rattle.name_list.specs.Listed.{flashAt, InStore, listedReply, Answers};
+use lookup::nth_set;
 use memory_copy::copy_at;
 use name_flash::flash_listed;
 use protocol::Code;
@@ -25,8 +25,6 @@ use response_types::Said;
 use state::Control;
 use state::NAME_SIZE;
 use state::Phase;
-use state::SLOTS;
-use state::mask::has;
 use state::row::kind_of;
 
 // A name in the list, or a number past its end.
@@ -63,25 +61,6 @@ pub fn count(control: Control) -> Said
     Said::Number {
         n: 1 + (slots + flash_count(phase)),
     }
-}
-
-// The set bit of a mask that has i set bits below it.
-fn nth_set(mask: u32, i: u32) -> usize
-    requires { ⌜ (mask < sixteenBits) × (i < ones mask) ⌝ }
-    ensures { λ k. ⌜ Nth mask i k ⌝ }
-{
-    let mut seen: u32 = 0;
-    let mut k: usize = 0;
-    while k < SLOTS - 1 {
-        if has(mask, k) {
-            if seen == i {
-                return k;
-            }
-            seen += 1;
-        }
-        k += 1;
-    }
-    k
 }
 
 // The listed flash name number i.

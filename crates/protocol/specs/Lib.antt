@@ -7,3 +7,4 @@ pub mod Cases
 pub mod Layout
 pub mod Inside
 pub mod NameForms
+pub mod Naming

@@ -47,6 +47,51 @@ busy = 0xC0
 abbrev pub notSupported : ℕ
 notSupported = 0xD5
 
+-- ---- Completion codes of a store file (section 24)
+-- a store session is open (rule 24.2)
+abbrev pub sessionOpen : ℕ
+sessionOpen = 0xE0
+
+-- a wire type that is none of the four (rule 24.3)
+abbrev pub otherType : ℕ
+otherType = 0xE1
+
+-- field number 0 (rule 24.3)
+abbrev pub zeroField : ℕ
+zeroField = 0xE2
+
+-- a known field of another wire type than its own (rule 24.3)
+abbrev pub wrongType : ℕ
+wrongType = 0xE3
+
+-- a number that is cut off, or has more than ten bytes or 64 bits (rule 24.3)
+abbrev pub badNumber : ℕ
+badNumber = 0xE4
+
+-- a value that goes past the end of its message (rule 24.3)
+abbrev pub pastEnd : ℕ
+pastEnd = 0xE5
+
+-- no base, or another one (rule 24.5)
+abbrev pub wrongBase : ℕ
+wrongBase = 0xE6
+
+-- a blob without a store name (rule 24.5)
+abbrev pub badName : ℕ
+badName = 0xE7
+
+-- one name for two blobs (rule 24.5)
+abbrev pub repeatedName : ℕ
+repeatedName = 0xE8
+
+-- a scan that is longer than a slot's region (rule 24.5)
+abbrev pub longData : ℕ
+longData = 0xE9
+
+-- more blobs than slots (rule 24.5)
+abbrev pub manyBlobs : ℕ
+manyBlobs = 0xEA
+
 -- ---- Message frame (section 1)
 -- the OEM number 49871, lowest byte first (rule 1.3)
 abbrev pub oem : List ℕ

@@ -1,14 +1,12 @@
 -- One law for each way through a command on the flash session: what the code leaves is what the rules say. Assumes nothing.
 use mathlib.Core.Path.{_≡_, refl, sym, _∙_, ap}
 use mathlib.Core.Bool.{Bool, true, false, cond, true≢false}
-use mathlib.Core.List.{List, _++_, append-nil}
+use mathlib.Core.List.{List}
 use Prim.Native.Nat.{ℕ, _+_, _≤_, max}
-use native.Mathlib.Nat.{zero-add}
-use native.Mathlib.Omega.{arith}
 use lib.Dec.{eqb}
 use borrow.Author.Tests.{eq-eqb, ne-eqb}
-use lib.ListN.{length, drop, replicate, length-replicate, drop-of-length-le}
-use lib.Seq.{sets, sets-eq}
+use lib.ListN.{length}
+use lib.Seq.{sets}
 use Rattle.laws.specs.Ranges.{block}
 use Rattle.laws.specs.Bits.{bit, putBit}
 use Rattle.protocol.specs.Numbers.{rowWords, imageSize, hashSize, running, succeeded, failed, notSupported, invalid, busy}
@@ -41,17 +39,6 @@ holdsBytes Update = false
 holdsBytes Cleanup = false
 
 -- ---- on the part
--- a list cleared from its start to its end
-pub cleared : (n m : ℕ) (l : List ℕ) → n ≡ m → length l ≡ n → sets l 0 (replicate m 0) ≡ replicate n 0
-cleared n m l size e =
-    let o : List ℕ = replicate n 0 in
-    let q : length o ≡ n = length-replicate n 0 in
-    ap (λ (k : ℕ). sets l 0 (replicate k 0)) (sym size)
-    ∙ sets-eq o l 0 (omega arith)
-    ∙ ap (λ (k : ℕ). o ++ drop k l) (zero-add (length o) ∙ q)
-    ∙ ap (λ (y : List ℕ). o ++ y) (drop-of-length-le l {i = n} (omega arith))
-    ∙ append-nil o
-
 module _ (t offset : ℕ) (ws : List ℕ) (x : Row) (b : FlashBody) where
   write-none : (k : FlashKind) → holdsBytes k ≡ false → onFlash k t (write offset ws) x b ≡ refuse notSupported x b
   unfolding onFlash writeFlash

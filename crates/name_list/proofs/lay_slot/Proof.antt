@@ -7,7 +7,7 @@ use Rattle.laws.specs.Ranges.{part}
 use Rattle.laws.specs.Bytes.{firstZero}
 use Rattle.protocol.specs.Numbers.{nameSize}
 use Rattle.protocol.specs.Sizes.{name-size}
-use Rattle.name_list.specs.Laws.{field-lent, front-short, front-lent}
+use Rattle.laws.specs.Fronts.{block-lent, front-short, text-lent}
 use borrow.Author.Needs.{needs}
 use Rattle.name_list.proofs.lay_slot.Statement.{statement}
 use Rattle.name_list.proofs.lay_slot.Tie as tie
@@ -67,8 +67,8 @@ returns : tie.Need-returns
 returns c = let a = entry (at-first-zero c) .args in
     let n = a .names .now in
     let z : at-first-zero c .first-zero .result ≤ nameSize = omega (arith, at-first-zero c .first-zero .ensures .1, front-short nameSize 32 name-size (a .k) n 32 (omega (arith, name-size))) in
-    rw (← front-lent nameSize 32 name-size (a .k) n (at-first-zero c .first-zero .result)
-    (at-first-zero c .first-zero .ensures .0 ∙ ap firstZero (field-lent nameSize 32 name-size (a .k) n)) z) (c .before .before .lay .ensures)
+    rw (← text-lent nameSize 32 name-size (a .k) n (at-first-zero c .first-zero .result)
+    (at-first-zero c .first-zero .ensures .0 ∙ ap firstZero (block-lent nameSize 32 name-size (a .k) n)) z) (c .before .before .lay .ensures)
 
 pub lay-slot-spec : {M : Type 1} → statement M
 lay-slot-spec =

@@ -5,7 +5,7 @@ use Rattle.protocol.specs.declared.FlashKind.{FlashKind}
 use Rattle.state.specs.declared.row.Place.the-variants.{AtFlash}
 use Rattle.state.specs.State.{stateOf, inBody}
 use Rattle.protocol.specs.Sizes.{image-size, hash-size}
-use Rattle.session_flash.proofs.Laws.{cleared}
+use Rattle.laws.specs.Fronts.{cleared}
 use Rattle.open_flash.specs.Lengths.{withoutImage, withoutHash}
 use borrow.Author.Needs.{needs}
 use Rattle.open_flash.proofs.empty_flash.Statement.{statement}

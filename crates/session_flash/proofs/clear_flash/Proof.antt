@@ -3,7 +3,7 @@ use mathlib.Core.Path.{_∙_}
 use native.Mathlib.Omega.{arith}
 use Rattle.protocol.specs.Numbers.{imageSize, hashSize}
 use Rattle.protocol.specs.Sizes.{image-size, hash-size}
-use Rattle.session_flash.proofs.Laws.{cleared}
+use Rattle.laws.specs.Fronts.{cleared}
 use borrow.Author.Needs.{needs}
 use Rattle.session_flash.proofs.clear_flash.Statement.{statement}
 use Rattle.session_flash.proofs.clear_flash.Tie as tie

@@ -9,10 +9,10 @@ use lib.Dec.{eqb}
 use borrow.Author.Tests.{eqb-true, eqb-false}
 use Rattle.laws.specs.Bits.{bit, bit-lt}
 use Rattle.laws.specs.Masks.{ones-more}
-use Rattle.name_list.specs.Laws.{ones-start, nth-last}
+use Rattle.lookup.specs.Laws.{ones-start, nth-last}
 use borrow.Author.Needs.{needs}
-use Rattle.name_list.proofs.nth_set.Statement.{statement}
-use Rattle.name_list.proofs.nth_set.Tie as tie
+use Rattle.lookup.proofs.nth_set.Statement.{statement}
+use Rattle.lookup.proofs.nth_set.Tie as tie
 
 abbrev Inv-loop : tie.InvT-loop
 Inv-loop mask i seen₀ k₀ seen k = (k ≤ 15) × ((seen ≡ onesIn k mask) × (seen ≤ i))

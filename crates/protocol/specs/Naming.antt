@@ -11,8 +11,9 @@ use lib.ListN.{length, getD, take, drop}
 use lib.Seq.{getD-take, getD-drop}
 use Rattle.laws.specs.All.{all, all-at, and-true, and-both}
 use Rattle.laws.specs.Bytes.{same, same-true, same-refl, text, padded, text-padded}
 use Rattle.protocol.specs.Numbers.{nameSize, storeNameMost}
+use Rattle.protocol.specs.Sizes.{name-size}
 use Rattle.protocol.specs.Names.{base, alnum, storeName, storeField}
 
 alnum-not-zero : alnum 0 ≡ false
 unfolding alnum
@@ -59,16 +60,16 @@ no-zero n f i l z = go (decLt i 6)
         let e : getD (drop (length base) n) (i - length base) 0 ≡ getD n i 0 = getD-drop (length base) n (i - length base) 0 ∙ ap (λ (j : ℕ). getD n j 0) (omega arith) in
         true≢false (sym a ∙ ap alnum (e ∙ z) ∙ alnum-not-zero)
 
--- the size of a name field
-pub name-bound : nameSize ≡ 32
-unfolding nameSize
-name-bound = refl
+-- it fits the field
+pub name-fits : (n : List ℕ) → storeName n ≡ true → length n ≤ nameSize
+name-fits n h = let a = is-name n h .shorter in let b = base-length in let c = name-size in omega arith
 
--- filled up it may stand in a slot
+-- filled up with zeros it is read back, and may stand in a slot
+pub text-of-name : (n : List ℕ) → storeName n ≡ true → text (padded nameSize n) ≡ n
+text-of-name n h = text-padded nameSize n (name-fits n h) (no-zero n (is-name n h))
+
 pub field-of-name : (n : List ℕ) → storeName n ≡ true → storeField (padded nameSize n) ≡ true
 unfolding storeField
 field-of-name n h =
-    let f = is-name n h in
-    let l : length n ≤ nameSize = let a = f .shorter in let b = base-length in let c = name-bound in omega arith in
-    let e : text (padded nameSize n) ≡ n = text-padded nameSize n l (no-zero n f) in
+    let e = text-of-name n h in
     and-both _ _ (ap storeName e ∙ h) (ap (λ (x : List ℕ). same (padded nameSize n) (padded nameSize x)) e ∙ same-refl (padded nameSize n))
