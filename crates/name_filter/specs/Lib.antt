@@ -1,0 +1,4 @@
+pub mod Hash
+pub mod Filter
+pub mod Seen
+pub mod Examples

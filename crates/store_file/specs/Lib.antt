@@ -1,0 +1,6 @@
+pub mod Messages
+pub mod Saved
+pub mod Loaded
+pub mod Storable
+pub mod Scans
+pub mod ScanLaws
