@@ -2,29 +2,34 @@
  * SPDX-License-Identifier: Apache-2.0
  *
  * The library answers the requests of the IPMI blob protocol: a store of 16 named blobs, and a firmware update by image, hash, verify, update
- * and cleanup. It is proved: for every input the result, and every word and byte of the memory lent to it, are those of its rules. This page
- * says how to call it from C, and has every number that a client of the protocol needs; docs/PROTOCOL.md has the rules.
+ * and cleanup. The store can be saved as a file and loaded from one. It is proved: for every input the result, and every word and byte of the
+ * memory lent to it, are those of its rules. This page says how to call it from C, and has every number that a client of the protocol needs;
+ * docs/PROTOCOL.md has the rules.
  *
  * In this order: version; messages (frame, CRC, subcommands and their fields, flags, states, names, completion codes, times, what a client does);
- * the memory to lend and what stands in it; the two functions; the memory as one struct. The two functions are proved; the inline functions of this
- * page are plain C, tested and not proved. It needs C99 or later, or C++11 or later, and a machine that the archive was made for (x86-64).
+ * the memory to lend and what stands in it; the four functions, the last two with the form of a store file; the memory as one struct. The four
+ * functions are proved; the inline functions of this page are plain C, tested and not proved. It needs C99 or later, or C++11 or later, and a machine
+ * that the archive was made for (x86-64).
  *
  * Memory. The caller owns all memory and lends it for the time of a call. The library allocates nothing, has no global state and keeps no
- * pointer. Lend the same memory at each call, and write nothing into it in between: it is the whole state. (The answer buffer is no part of it.)
+ * pointer. Lend the same memory at each call, and write nothing into it in between: it is the whole state. (The answer buffer, the buffer for a part
+ * of a store file, and such a file are no part of it.)
  * Zero all of it once, at start (memset, or static storage): all zeros is the fresh state, with no blob, no session and no update under way.
- * Nothing in it is a pointer, so it may be copied or saved as a whole; with memory that was saved the clock must go on from where it was.
+ * Nothing in it is a pointer, so it may be copied or saved as a whole; with memory that was saved the clock must go on from where it was. To keep
+ * the store alone, in a form that other programs read too, see kramsnep_save_part.
  *
  * - No pointer may be null, not even one to a length of 0.
  * - Each length is the true number of elements behind its pointer: 32-bit words for control and table, bytes for all else.
  * - control and table are aligned as uint32_t; the others may stand anywhere.
- * - No two of the buffers may overlap; the request may not stand in any of the others.
+ * - No two of the buffers may overlap; the request, or the file to load, may not stand in any of the others.
  * - Words are uint32_t of the machine. Numbers in messages are little-endian.
  *
  * The library tests at each call that the lent lengths are exact and that the state is sound; if not, the result is KRAMSNEP_NOT_SOUND and
  * nothing is changed. So wrong lengths and damaged memory are refused, but null or dangling pointers and false lengths are not caught.
  *
  * Threads. Calls on different memory may run at the same time. Calls on the same memory must not: hold a lock, or call from one task.
- * A call does not block and always ends. It needs little stack: less than 3 KB on x86-64, over every subcommand (measured, not proved).
+ * A call does not block and always ends. It needs little stack: less than 3 KB on x86-64, over every subcommand and every part of a store file. Only
+ * kramsnep_load needs more, less than 35 KB, whatever the file (measured, not proved).
  */
 #ifndef KRAMSNEP_H
 #define KRAMSNEP_H
@@ -38,9 +43,9 @@ extern "C" {
 
 /* ---- Version: semantic. Before 1.0.0 a minor version may change what is here; docs/CHANGELOG.md says what. */
 #define KRAMSNEP_VERSION_MAJOR 0
-#define KRAMSNEP_VERSION_MINOR 2
+#define KRAMSNEP_VERSION_MINOR 3
 #define KRAMSNEP_VERSION_PATCH 0
-#define KRAMSNEP_VERSION "0.2.0"
+#define KRAMSNEP_VERSION "0.3.0"
 
 /* ---- Messages
  *
@@ -193,11 +198,24 @@ static inline uint16_t kramsnep_crc(const uint8_t *bytes, size_t n)
 #define KRAMSNEP_NO_ROOM 0xC4         /* all 16 sessions, or all 16 blobs, are in use */
 #define KRAMSNEP_WRONG_LENGTH 0xC7    /* message below 4 or above 64 bytes, or the body's length is wrong for its subcommand */
 #define KRAMSNEP_TOO_LONG 0xC8        /* a Write would end above the capacity */
-#define KRAMSNEP_OUT_OF_RANGE 0xC9    /* Enumerate's index is not below the count, or Write's offset is above the length */
+#define KRAMSNEP_OUT_OF_RANGE 0xC9    /* Enumerate's index is not below the count, Write's offset is above the length, or there is no such part */
 #define KRAMSNEP_NOT_FOUND 0xCB       /* no such blob or session */
 #define KRAMSNEP_INVALID 0xCC         /* OEM number, CRC, form of a name, flags, commit length, or the verdict on a job, are wrong */
 #define KRAMSNEP_NOT_SUPPORTED 0xD5   /* this blob or session has no such command, or no job runs whose outcome could be taken */
 #define KRAMSNEP_NOT_SOUND 0xFF       /* a lent length is wrong, or the state is damaged */
+
+/* The codes by which kramsnep_load refuses a store file; no request is answered with one of them. */
+#define KRAMSNEP_SESSION_OPEN 0xE0  /* a store blob has a session; the file was not looked at */
+#define KRAMSNEP_OTHER_TYPE 0xE1    /* a field has a wire type other than 0, 1, 2 and 5 */
+#define KRAMSNEP_ZERO_FIELD 0xE2    /* a field has the number 0 */
+#define KRAMSNEP_WRONG_TYPE 0xE3    /* base, blob, name or data has another wire type than 2 */
+#define KRAMSNEP_BAD_NUMBER 0xE4    /* a number is cut off, or has more than ten bytes or 64 bits */
+#define KRAMSNEP_PAST_END 0xE5      /* a value goes past the end of the file, or of its blob */
+#define KRAMSNEP_WRONG_BASE 0xE6    /* there is no base, or it is not KRAMSNEP_NAME_BASE */
+#define KRAMSNEP_BAD_NAME 0xE7      /* a blob has no name, or one that is no store name */
+#define KRAMSNEP_REPEATED_NAME 0xE8 /* two blobs have the same name */
+#define KRAMSNEP_LONG_DATA 0xE9     /* a blob has more than KRAMSNEP_SLOT_SIZE bytes of data */
+#define KRAMSNEP_MANY_BLOBS 0xEA    /* there are more than KRAMSNEP_SLOTS blobs */
 
 /* Times, in seconds of the caller's clock. An Open sweeps if the last sweep was KRAMSNEP_SWEEP_EVERY seconds ago or more: it closes the sessions
  * that were not used for more than KRAMSNEP_SESSION_LIFE seconds and have no running job. */
@@ -283,9 +301,9 @@ static inline uint16_t kramsnep_crc(const uint8_t *bytes, size_t n)
 #define KRAMSNEP_JOB_SUCCEEDED 2
 #define KRAMSNEP_JOB_FAILED 3
 
-/* ---- The two functions */
+/* ---- The four functions */
 
-/* The two parts of kramsnep_respond's result: completion code, and length of the response (0 for a refusal). */
+/* The two halves of a result of kramsnep_respond or kramsnep_save_part: completion code, and length of what was written (0 for a refusal). */
 #define KRAMSNEP_CODE(result) ((uint8_t)((result) & 0xFFu))
 #define KRAMSNEP_LENGTH(result) ((size_t)((result) >> 8))
 
@@ -339,6 +357,64 @@ static inline int kramsnep_running_job(const uint32_t *control, const uint32_t *
     return KRAMSNEP_NO_JOB;
 }
 
+/* A store file has the committed blobs, and nothing of sessions and flash. It is the message BinaryBlobStore, in the wire encoding of Protocol
+ * Buffers: other programs can read what is saved, and can write what is loaded. Its fields, all of wire type 2 (a length, then so many bytes): */
+#define KRAMSNEP_FILE_BASE 1      /* of the store: the base, KRAMSNEP_NAME_BASE */
+#define KRAMSNEP_FILE_BLOB 2      /* of the store: a blob, again with fields; one for each */
+#define KRAMSNEP_FILE_BLOB_NAME 1 /* of a blob: its name, without the NUL */
+#define KRAMSNEP_FILE_BLOB_DATA 2 /* of a blob: its contents */
+
+/* It is saved in parts, so that a buffer for one blob will do. */
+#define KRAMSNEP_PART_SIZE 4200 /* the length to lend; every part fits */
+#define KRAMSNEP_PARTS_MOST 17  /* the base, and 16 blobs */
+
+/* Saves one part of the store.
+ *
+ * part: 0 is the base; from 1 on there is one for each committed blob, in the order of the slots. The parts laid end to end are the file, which has
+ *   less than 67,000 bytes. Ask for 0, 1, 2 and so on until KRAMSNEP_OUT_OF_RANGE, and let nothing change the store in between: else the parts
+ *   need not belong together.
+ * buffer: on success the part stands in its first KRAMSNEP_LENGTH(result) bytes, and the bytes behind keep their values; a refusal changes none.
+ *
+ * Sessions may be open, and a job may run: saved is what was committed last, without what was written since. All but the buffer is only read.
+ * Write the parts into a new file, and rename it over the old one once all of them are there, as the program blobrun does: then one of the two is
+ * always there, and whole.
+ *
+ * The result is the completion code in the lowest byte and the length of the part above it. Refusals are tested in this order:
+ *   KRAMSNEP_NOT_SOUND     a lent length is wrong, that of the buffer too, or the state is damaged
+ *   KRAMSNEP_OUT_OF_RANGE  there is no such part: the last one was before it */
+uint32_t kramsnep_save_part(uint32_t part, const uint32_t *control, size_t control_len, const uint32_t *table, size_t table_len,
+                            const uint8_t *names, size_t names_len, const uint8_t *committed, size_t committed_len,
+                            const uint8_t *staged, size_t staged_len, const uint8_t *image, size_t image_len,
+                            const uint8_t *hash, size_t hash_len, uint8_t *buffer, size_t buffer_len);
+
+/* Loads a store file: its blobs take the place of the whole store.
+ *
+ * file, file_len: the bytes of the whole file. Any length may be passed, 0 too. Fields may stand in any order; unknown ones, among them the settings
+ *   that the message can have, are skipped; of a base, a name or data given twice the last counts; a blob without data is empty. Keys and lengths
+ *   may have up to ten bytes, some more than the parsers of Protocol Buffers take.
+ *
+ * On success the blobs are committed, in slots from 0 on in the order of the file, and the other slots are unused. The flash, its sessions and a
+ * running job stay as they are. Sessions on store blobs must be closed: so load at start, before the first request.
+ *
+ * The result is the completion code: KRAMSNEP_SUCCESS, or a refusal, which changes nothing. They are tested in this order:
+ *   KRAMSNEP_NOT_SOUND      a lent length is wrong, or the state is damaged
+ *   KRAMSNEP_SESSION_OPEN   a store blob has a session
+ *   KRAMSNEP_OTHER_TYPE, KRAMSNEP_ZERO_FIELD, KRAMSNEP_WRONG_TYPE, KRAMSNEP_BAD_NUMBER, KRAMSNEP_PAST_END
+ *                           the first of these faults from the front of the file on, the inside of a blob before what follows the blob; of one
+ *                           field a key that is no number, then the three faults of the key in this order, then those of the value
+ *   KRAMSNEP_WRONG_BASE     each of these five over the whole file, before the next
+ *   KRAMSNEP_BAD_NAME
+ *   KRAMSNEP_REPEATED_NAME
+ *   KRAMSNEP_LONG_DATA
+ *   KRAMSNEP_MANY_BLOBS
+ *
+ * Bound the length of a file that may come from others. In general the time grows with the length; but of names chosen so that the library's hash is
+ * the same for all, it grows with its square (on one machine about 0.2 s for 128 KiB, and 12 s for 1 MiB). */
+uint32_t kramsnep_load(const uint8_t *file, size_t file_len, uint32_t *control, size_t control_len, const uint32_t *table, size_t table_len,
+                       uint8_t *names, size_t names_len, uint8_t *committed, size_t committed_len,
+                       uint8_t *staged, size_t staged_len, const uint8_t *image, size_t image_len,
+                       const uint8_t *hash, size_t hash_len);
+
 /* ---- All of it in one place, for callers who keep it so */
 
 struct kramsnep_memory {
@@ -371,6 +447,22 @@ static inline uint32_t kramsnep_job_outcome_in(struct kramsnep_memory *m, uint32
     return kramsnep_job_outcome(verdict, m->control, KRAMSNEP_CONTROL_WORDS, m->table, KRAMSNEP_TABLE_WORDS, m->names, KRAMSNEP_NAMES_SIZE,
                                 m->committed, KRAMSNEP_COMMITTED_SIZE, m->staged, KRAMSNEP_STAGED_SIZE, m->image, KRAMSNEP_IMAGE_SIZE,
                                 m->hash, KRAMSNEP_HASH_SIZE);
+}
+
+/* kramsnep_save_part on memory of that type, and a buffer of KRAMSNEP_PART_SIZE bytes. */
+static inline uint32_t kramsnep_save_part_in(const struct kramsnep_memory *m, uint32_t part, uint8_t *buffer)
+{
+    return kramsnep_save_part(part, m->control, KRAMSNEP_CONTROL_WORDS, m->table, KRAMSNEP_TABLE_WORDS, m->names, KRAMSNEP_NAMES_SIZE,
+                              m->committed, KRAMSNEP_COMMITTED_SIZE, m->staged, KRAMSNEP_STAGED_SIZE, m->image, KRAMSNEP_IMAGE_SIZE,
+                              m->hash, KRAMSNEP_HASH_SIZE, buffer, KRAMSNEP_PART_SIZE);
+}
+
+/* kramsnep_load on memory of that type. */
+static inline uint32_t kramsnep_load_in(struct kramsnep_memory *m, const uint8_t *file, size_t file_len)
+{
+    return kramsnep_load(file, file_len, m->control, KRAMSNEP_CONTROL_WORDS, m->table, KRAMSNEP_TABLE_WORDS, m->names, KRAMSNEP_NAMES_SIZE,
+                         m->committed, KRAMSNEP_COMMITTED_SIZE, m->staged, KRAMSNEP_STAGED_SIZE, m->image, KRAMSNEP_IMAGE_SIZE,
+                         m->hash, KRAMSNEP_HASH_SIZE);
 }
 
 #ifdef __cplusplus

@@ -4,10 +4,10 @@
 header.py --check    needs a C compiler (CC, or cc); C++ is tried where there is a compiler for it (CXX, or c++)
 
 - It compiles alone, as C99 and as C++11, and twice in one file, without a warning; and so does the handler of docs/HOOKING.md. C++ links its functions as those of C.
-- Its two functions have the parameters of the proved ones, in their order. The functions over the struct hand each part of it on under its own length.
+- Its functions are the proved ones, with their parameters in their order. The functions over the struct hand each part of it on under its own length.
 - Each of its numbers is the value of the definition that NUMBERS names for it, in the specs and, where the code has the number too, in the code; no number of the header is
   without a definition, and no number of Numbers.antt is missing that a client needs.
-- The table of requests and responses in its comment is that of Decode.antt and of the replies; so are the numbers in the comments on frame, control block and rows. Names, OEM bytes and version are those of Names.antt, of Numbers.antt and of the
+- The table of requests and responses in its comment is that of Decode.antt and of the replies; so are the numbers in the comments on frame, control block and rows. The longest store file is as long as it says. Names, OEM bytes and version are those of Names.antt, of Numbers.antt and of the
   first entry of docs/CHANGELOG.md.
 - kramsnep_crc gives the worked values and what Python's own CRC gives; kramsnep_running_job and the macros with an argument give what the layout of a row and of a result says.
 
@@ -25,8 +25,10 @@ import tempfile
 ROOT = pathlib.Path(__file__).resolve().parent.parent
 HEADER = ROOT / "include" / "kramsnep.h"
 PREFIX = "KRAMSNEP_"
-SPECS = ("protocol/specs/Numbers", "protocol/specs/Decode", "protocol/specs/Names", "rules/specs/Messages", "crc/specs/Crc", "capi_control/specs/Words", "capi/specs/Call")
-CODE = ("protocol", "state", "crc", "open_sweep", "capi_control", "capi")
+SPECS = ("protocol/specs/Numbers", "protocol/specs/Decode", "protocol/specs/Names", "rules/specs/Messages", "crc/specs/Crc", "capi_control/specs/Words", "capi/specs/Call",
+         "store_file/specs/Messages", "store_file/specs/Saved")
+CODE = ("protocol", "state", "crc", "open_sweep", "capi_control", "capi", "store_file", "store_writer", "run_store")
+WORDS = "no one two three four five six seven eight nine ten eleven twelve".split()
 STRICT = ("-Wall", "-Wextra", "-Wpedantic", "-Werror")
 
 # What each number of the header is by the definitions: one or several, all of the same value. A name with a capital letter and `::` is a constant of the code.
@@ -59,6 +61,10 @@ NUMBERS = {
     "NO_ROOM": "noRoom, protocol::Code::NO_ROOM", "WRONG_LENGTH": "wrongLength, protocol::Code::WRONG_LENGTH", "TOO_LONG": "tooLong, protocol::Code::TOO_LONG",
     "OUT_OF_RANGE": "outOfRange, protocol::Code::OUT_OF_RANGE", "NOT_FOUND": "notFound, protocol::Code::NOT_FOUND", "INVALID": "invalid, protocol::Code::INVALID",
     "NOT_SUPPORTED": "notSupported, protocol::Code::NOT_SUPPORTED", "NOT_SOUND": "notSound, protocol::Code::NOT_SOUND",
+    "SESSION_OPEN": "sessionOpen, protocol::Code::SESSION_OPEN", "OTHER_TYPE": "otherType, protocol::Code::OTHER_TYPE", "ZERO_FIELD": "zeroField, protocol::Code::ZERO_FIELD",
+    "WRONG_TYPE": "wrongType, protocol::Code::WRONG_TYPE", "BAD_NUMBER": "badNumber, protocol::Code::BAD_NUMBER", "PAST_END": "pastEnd, protocol::Code::PAST_END",
+    "WRONG_BASE": "wrongBase, protocol::Code::WRONG_BASE", "BAD_NAME": "badName, protocol::Code::BAD_NAME", "REPEATED_NAME": "repeatedName, protocol::Code::REPEATED_NAME",
+    "LONG_DATA": "longData, protocol::Code::LONG_DATA", "MANY_BLOBS": "manyBlobs, protocol::Code::MANY_BLOBS",
     "SWEEP_EVERY": "sweepEvery, open_sweep::SWEEP_EVERY", "SESSION_LIFE": "sessionLife, open_sweep::SESSION_LIFE",
     "CONTROL_WORDS": "controlSize, capi_control::CONTROL_WORDS", "TABLE_WORDS": "rowCount * rowWords", "NAMES_SIZE": "slotCount * nameSize",
     "COMMITTED_SIZE": "slotCount * slotSize", "STAGED_SIZE": "slotCount * slotSize", "IMAGE_SIZE": "imageSize, state::IMAGE_SIZE", "HASH_SIZE": "hashSize, state::HASH_SIZE",
@@ -74,6 +80,8 @@ NUMBERS = {
     "BLOB_UPDATE": "updateBlob, flashNumber.Update", "BLOB_CLEANUP": "cleanupBlob, flashNumber.Cleanup",
     "JOB_UNTRIED": "untried, state::Status::UNTRIED", "JOB_RUNNING": "running, state::Status::RUNNING", "JOB_SUCCEEDED": "succeeded, state::Status::SUCCEEDED",
     "JOB_FAILED": "failed, state::Status::FAILED", "VERDICT_FAILED": "jobFailed, capi::JOB_FAILED", "VERDICT_GOOD": "jobGood, capi::JOB_GOOD",
+    "FILE_BASE": "baseField, store_file::STORE_BASE", "FILE_BLOB": "blobField, store_file::STORE_BLOB", "FILE_BLOB_NAME": "nameField, store_file::BLOB_NAME",
+    "FILE_BLOB_DATA": "dataField, store_file::BLOB_DATA", "PART_SIZE": "bufferSize, store_writer::BUFFER_SIZE", "PARTS_MOST": "1 + slotCount, run_store::PARTS_MOST",
 }
 NAMES = {"NAME_BASE": ("base", "protocol::BASE"), "NAME_IMAGE": ("flashName.Image", "protocol::FLASH_IMAGE"), "NAME_HASH": ("flashName.Hash", "protocol::FLASH_HASH"),
          "NAME_VERIFY": ("flashName.Verify", "protocol::FLASH_VERIFY"), "NAME_UPDATE": ("flashName.Update", "protocol::FLASH_UPDATE"),
@@ -247,20 +255,22 @@ def alone():
 
 
 def linked_from(compiler_of_cpp):
-    """C++ finds the two functions under their C names."""
+    """C++ finds the functions under their C names."""
     with tempfile.TemporaryDirectory() as name:
         folder = pathlib.Path(name)
         (folder / "stub.c").write_text(STUBS, encoding="ascii")
-        (folder / "main.cpp").write_text('#include "kramsnep.h"\nint main() { static kramsnep_memory m; return (int)(kramsnep_respond_in(&m, m.names, 0, 0, m.hash) + kramsnep_job_outcome_in(&m, 0)); }\n', encoding="ascii")
+        calls = "kramsnep_respond_in(&m, m.names, 0, 0, m.hash) + kramsnep_job_outcome_in(&m, 0) + kramsnep_save_part_in(&m, 0, m.image) + kramsnep_load_in(&m, m.hash, 0)"
+        (folder / "main.cpp").write_text(f'#include "kramsnep.h"\nint main() {{ static kramsnep_memory m; return (int)({calls}); }}\n', encoding="ascii")
         subprocess.run([*compiler(), "-c", f"-I{HEADER.parent}", "stub.c"], cwd=folder, check=True)
         done = subprocess.run([*compiler_of_cpp, f"-I{HEADER.parent}", "main.cpp", "stub.o", "-o", "main"], cwd=folder, capture_output=True, text=True, check=False)
     return [f"from C++: {done.stderr}"] if done.returncode else []
 
 
 def prototypes():
-    """The two functions of the header have the parameters that the proved functions have."""
+    """The functions of the header are the proved ones, and have their parameters."""
     faults, code, text = [], text_of("capi/src/lib.rt"), HEADER.read_text(encoding="ascii")
-    for function, listed in re.findall(r'(?ms)^pub extern "C" fn (\w+)\((.*?)^\) -> u32$', code):
+    proved = re.findall(r'(?ms)^pub extern "C" fn (\w+)\((.*?)^\) -> u32$', code)
+    for function, listed in proved:
         wanted = []
         for name, kind in re.findall(r"(\w+): ([^,]+),", listed):
             slice_of = re.fullmatch(r"&(mut )?\[(u\d+)\]", kind)
@@ -268,10 +278,13 @@ def prototypes():
         found = re.search(rf"(?ms)^uint32_t {function}\((.*?)\);", text)
         if not found or " ".join(found.group(1).split()) != ", ".join(wanted):
             faults.append(f"{function} has the parameters {', '.join(wanted)}")
-    return faults + ([] if len(re.findall(r"(?m)^uint32_t kramsnep_\w+\(", text)) == 2 else ["there are two functions"])
+    declared, exported = re.findall(r"(?m)^\w+ (kramsnep_\w+)\(", text), re.findall(r'extern "C" fn (\w+)', code)
+    if not declared == [function for function, _ in proved] == exported:
+        faults.append(f"declared are {declared}, and the proved functions are {exported}")
+    return faults + ([] if text.count(f"the {WORDS[len(exported)]} functions") == 1 else [f"the header has {len(exported)} functions, and says otherwise"])
 
 
-# Stand-ins for the two functions: they print what they are given, buffers by their place in `lent`.
+# Stand-ins for the functions: they print what they are given, buffers by their place in `lent`.
 STUBS = r"""
 #include <stddef.h>
 #include <stdio.h>
@@ -292,11 +305,25 @@ uint32_t kramsnep_job_outcome(uint32_t v, const uint32_t *d, size_t e, uint32_t 
     printf("%u %ld %zu %ld %zu %ld %zu %ld %zu %ld %zu %ld %zu %ld %zu\n", v, PLACE(d), e, PLACE(f), g, PLACE(h), i, PLACE(j), k, PLACE(l), m, PLACE(n), o, PLACE(p), q);
     return 88;
 }
+uint32_t kramsnep_save_part(uint32_t v, const uint32_t *d, size_t e, const uint32_t *f, size_t g, const uint8_t *h, size_t i, const uint8_t *j, size_t k,
+                            const uint8_t *l, size_t m, const uint8_t *n, size_t o, const uint8_t *p, size_t q, uint8_t *r, size_t s)
+{
+    printf("%u %ld %zu %ld %zu %ld %zu %ld %zu %ld %zu %ld %zu %ld %zu ", v, PLACE(d), e, PLACE(f), g, PLACE(h), i, PLACE(j), k, PLACE(l), m, PLACE(n), o, PLACE(p), q);
+    printf("%u %zu\n", r[0], s);
+    return 99;
+}
+uint32_t kramsnep_load(const uint8_t *a, size_t b, uint32_t *d, size_t e, const uint32_t *f, size_t g, uint8_t *h, size_t i, uint8_t *j, size_t k,
+                       uint8_t *l, size_t m, const uint8_t *n, size_t o, const uint8_t *p, size_t q)
+{
+    printf("%u %zu ", a[0], b);
+    printf("%ld %zu %ld %zu %ld %zu %ld %zu %ld %zu %ld %zu %ld %zu\n", PLACE(d), e, PLACE(f), g, PLACE(h), i, PLACE(j), k, PLACE(l), m, PLACE(n), o, PLACE(p), q);
+    return 111;
+}
 """
 
 
 def in_one_place():
-    """The functions over the struct hand on request, clock, verdict and answer as they are, and each part of the struct with its length; the struct has nothing else."""
+    """The functions over the struct hand on what else they are given as it is, and each part of the struct with its length; the struct has nothing else."""
     known = definitions()
     regions = known["slotCount"] * known["slotSize"]
     counts = [known["controlSize"], known["rowCount"] * known["rowWords"], known["slotCount"] * known["nameSize"], regions, regions, known["imageSize"], known["hashSize"]]
@@ -304,12 +331,15 @@ def in_one_place():
     for count, width in zip(counts, (4, 4, 1, 1, 1, 1, 1)):
         buffers += [at, count]
         at += count * width
-    body = ["    static struct kramsnep_memory m;", "    uint8_t request[3] = {11, 12, 13}, answer[KRAMSNEP_ANSWER_SIZE] = {21};", "    lent = (const char *)&m;",
-            '    printf("%u\\n", kramsnep_respond_in(&m, request, 3, 4000000000u, answer));', '    printf("%u\\n", kramsnep_job_outcome_in(&m, 5));', '    printf("%zu\\n", sizeof m);',
-            "    m.control[KRAMSNEP_CONTROL_ROWS] = 2; m.table[5] = KRAMSNEP_BLOB_UPDATE; m.table[6] = 0x10002;", '    printf("%d\\n", kramsnep_running_job_in(&m));']
+    body = ["    static struct kramsnep_memory m;", "    uint8_t request[3] = {11, 12, 13}, answer[KRAMSNEP_ANSWER_SIZE] = {21}, buffer[KRAMSNEP_PART_SIZE] = {31}, file[5] = {41};",
+            "    const struct kramsnep_memory *read = &m;", "    lent = (const char *)&m;",
+            '    printf("%u\\n", kramsnep_respond_in(&m, request, 3, 4000000000u, answer));', '    printf("%u\\n", kramsnep_job_outcome_in(&m, 5));',
+            '    printf("%u\\n", kramsnep_save_part_in(read, 4000000001u, buffer));', '    printf("%u\\n", kramsnep_load_in(&m, file, 5));', '    printf("%zu\\n", sizeof m);',
+            "    m.control[KRAMSNEP_CONTROL_ROWS] = 2; m.table[5] = KRAMSNEP_BLOB_UPDATE; m.table[6] = 0x10002;", '    printf("%d\\n", kramsnep_running_job_in(read));']
     found = [[int(word) for word in line.split()] for line in run_c("\n".join(body), STUBS).splitlines()]
-    wanted = [[11, 3, 4000000000, *buffers, 21, known["answerSize"]], [77], [5, *buffers], [88], [at], [known["updateBlob"]]]
-    return [f"handed on: {one}, not {other}" for one, other in zip(found, wanted) if one != other]
+    wanted = [[11, 3, 4000000000, *buffers, 21, known["answerSize"]], [77], [5, *buffers], [88], [4000000001, *buffers, 31, known["bufferSize"]], [99], [41, 5, *buffers], [111],
+              [at], [known["updateBlob"]]]
+    return [f"handed on: {one}, not {other}" for one, other in zip(found, wanted, strict=True) if one != other]
 
 
 def hooking():
@@ -406,6 +436,19 @@ def comments():
     return [f"no comment says: {one}" for one in wanted if not any(line.startswith(one) for line in lines)]
 
 
+def store_file():
+    """The longest part of a store file fits its buffer, and the longest file is shorter than a comment says, by less than a thousand bytes."""
+    def field(length):
+        return 1 + (1 if length < 128 else 2) + length
+
+    known = definitions()
+    blob = field(field(known["nameMost"]) + field(known["slotSize"]))
+    longest = field(len(known["base"])) + known["slotCount"] * blob
+    faults = [] if blob <= known["bufferSize"] else [f"a blob's part has up to {blob} bytes"]
+    said = f"less than {longest // 1000 + 1},000 bytes"
+    return faults + ([] if " ".join(HEADER.read_text(encoding="ascii").replace("\n *", "").split()).count(said) == 1 else [f"no comment says: {said}; the longest file has {longest}"])
+
+
 def crc():
     """The worked values of Worked.antt, which the comment says too, and random bytes against Python's own CRC."""
     worked = text_of("crc/specs/Worked.antt")
@@ -462,7 +505,7 @@ def parts():
     """The status in a row's word, on both sides of each multiple of its unit, and the two parts of a result."""
     known = definitions()
     words = [k * known["statusUnit"] + d for k in range(1, 9) for d in (-1, 0)]
-    results = [code + known["codeUnit"] * length for code in (known["success"], known["notSound"]) for length in (0, 1, known["answerSize"])]
+    results = [code + known["codeUnit"] * length for code in (known["success"], known["notSound"]) for length in (0, 1, known["answerSize"], known["bufferSize"])]
     wanted = [word // known["statusUnit"] % 4 for word in words] + [part for result in results for part in (result % known["codeUnit"], result // known["codeUnit"])]
     body = [f'    printf("%u\\n", (unsigned)KRAMSNEP_JOB_STATUS({word}u & 0xFFFFFFFFu));' for word in words]
     body += [f'    printf("%u %u\\n", (unsigned)KRAMSNEP_CODE({result}u | 0u), (unsigned)KRAMSNEP_LENGTH({result}u & 0xFFFFFFFFu));' for result in results]
@@ -481,7 +524,7 @@ def main():
     if sys.argv[1:] != ["--check"]:
         sys.exit(__doc__)
     failed = False
-    for test in (alone, hooking, prototypes, in_one_place, numbers, nothing_missing, oem_and_names, around, table, comments, crc, jobs, parts, version):
+    for test in (alone, hooking, prototypes, in_one_place, numbers, nothing_missing, oem_and_names, around, table, comments, store_file, crc, jobs, parts, version):
         faults = test()
         failed |= bool(faults)
         print("\n".join(f"header, {test.__name__}: {fault}" for fault in faults) or f"header, {test.__name__}: as defined")

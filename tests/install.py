@@ -1,5 +1,5 @@
 #!/usr/bin/env python3
-"""tools/install.sh puts in place what a C program builds against: it is run into an empty folder, and the C example is built and run by the flags of the pkg-config file.
+"""tools/install.sh puts in place what a C program builds against: it is run into an empty folder, and the C examples are built and run by the flags of the pkg-config file.
 
 install.py --check    needs target/staticlib/libcapi.a (rt staticlib capi) and a C compiler (CC, or cc)
 
@@ -85,13 +85,14 @@ def in_place(folder):
 
 
 def example(folder):
-    """The C example, alone in a folder, so that nothing but the flags can lead to header and archive."""
+    """The C examples, alone in a folder, so that nothing but the flags can lead to header and archive."""
     _, words = flags(installed(folder / "opt", folder)[2])
-    shutil.copy(EXAMPLE / "upload.c", folder)
-    done = run([*os.environ.get("CC", "cc").split(), "-std=c99", "-Wall", "-Wextra", "-Werror", "upload.c", *words, "-o", "upload"], folder)
-    expect("the example builds", (done.returncode, done.stderr), (0, ""))
-    done = run([folder / "upload"], folder)
-    expect("the example runs", (done.returncode, done.stdout), (0, (EXAMPLE / "upload.expected").read_text(encoding="ascii")))
+    for name in ("upload", "backup"):
+        shutil.copy(EXAMPLE / f"{name}.c", folder)
+        done = run([*os.environ.get("CC", "cc").split(), "-std=c99", "-Wall", "-Wextra", "-Werror", f"{name}.c", *words, "-o", name], folder)
+        expect(f"{name} builds", (done.returncode, done.stderr), (0, ""))
+        done = run([folder / name], folder)
+        expect(f"{name} runs", (done.returncode, done.stdout), (0, (EXAMPLE / f"{name}.expected").read_text(encoding="ascii")))
 
 
 def other_tree(folder):

@@ -1,6 +1,6 @@
 #!/bin/sh
-# Builds upload.c against the library and compares what it prints with upload.expected; then gives it a name that the library refuses, which it must
-# notice, and compares with refused.expected. Run anywhere; first `rt staticlib capi`.
+# Builds upload.c and backup.c against the library and compares what each prints with its .expected; then gives upload a name that the library refuses,
+# which it must notice, and compares with refused.expected. Run anywhere; first `rt staticlib capi`.
 set -eu
 unset CDPATH
 cd "$(dirname "$0")/../.."
@@ -9,10 +9,12 @@ library=target/staticlib/libcapi.a
 out=$(mktemp -d)
 trap 'rm -rf "$out"' EXIT
 trap 'exit 1' INT TERM HUP # so that the folder is removed then too
-${CC:-cc} -std=c99 -Wall -Wextra -Wpedantic -Werror -O2 -Iinclude examples/c/upload.c "$library" -o "$out/upload"
-"$out/upload" >"$out/printed"
-diff examples/c/upload.expected "$out/printed"
-echo "upload: as expected"
+for program in upload backup; do
+  ${CC:-cc} -std=c99 -Wall -Wextra -Wpedantic -Werror -O2 -Iinclude "examples/c/$program.c" "$library" -o "$out/$program"
+  "$out/$program" >"$out/printed"
+  diff "examples/c/$program.expected" "$out/printed"
+  echo "$program: as expected"
+done
 if "$out/upload" /scan/no-store-name >"$out/printed" 2>"$out/said"; then
   echo "upload /scan/no-store-name: ended as if nothing had been refused" >&2
   exit 1

@@ -1,13 +1,15 @@
 -- What a call from C leaves: its result, and every word and byte that was lent to it.
 use mathlib.Core.Bool.{Bool, cond, _&&_, _||_}
 use mathlib.Core.List.{List}
-use Prim.Native.Nat.{ℕ, _/_, _%_}
+use Prim.Native.Nat.{ℕ, _/_, _%_, _^_}
 use lib.Dec.{eqb}
 use Rattle.protocol.specs.Numbers.{invalid, notSound}
 use Rattle.state.specs.State.{State, stateOf}
 use Rattle.state.specs.Soundness.{isSound}
 use Rattle.state.specs.declared.Control.{Control}
 use Rattle.rules.specs.Respond.{Effect, jobOutcome, Served, served}
+use Rattle.store_file.specs.Saved.{Call, savedInto}
+use Rattle.store_file.specs.Loaded.{Loaded, loaded}
 use Rattle.capi_control.specs.Words.{controlFits, controlOf, wordsOf}
 
 -- the memory that holds a state: the control block's words, then what the state lends
@@ -74,6 +76,10 @@ responded t m l a = cond (controlFits (l .control)) (respondedWith (served t m (
 abbrev pub codeUnit : ℕ
 codeUnit = 256
 
+-- every length in a result is below this
+abbrev pub lengthLimit : ℕ
+lengthLimit = 2 ^ 24
+
 -- what such a result says, with what was lent (rule 19.4)
 abbrev pub resultOf : ℕ → Memory → List ℕ → Responded
 resultOf r l a = record { code = r % codeUnit; len = r / codeUnit; memory = l; answer = a }
@@ -108,3 +114,20 @@ reported v l =
     (cond (isVerdict v) (reportedWith (jobOutcome (eqb v jobGood) (stateIn l)))
     (keptWith invalid l))
     (keptWith notSound l)
+
+-- ---- a store file
+-- what the result of saving says, with the buffer (rule 23.6)
+abbrev pub partOf : ℕ → List ℕ → Call
+partOf r b = record { code = r % codeUnit; len = r / codeUnit; buffer = b }
+
+-- THE C FUNCTION `kramsnep_save_part`: the part that the library writes, where the control block's words are one; else FF, and the buffer is as found (rule 23.6)
+unfoldable pub savedCall : ℕ → Memory → List ℕ → Call
+savedCall p l b = cond (controlFits (l .control)) (savedInto p (stateIn l) b) (record { code = notSound; len = 0; buffer = b })
+
+-- what the reader leaves, in a memory
+abbrev pub loadedWith : Loaded → Reported
+loadedWith v = record { code = v .code; memory = memoryOf (v .state) }
+
+-- THE C FUNCTION `kramsnep_load`: what the library makes of the file, where the control block's words are one; else FF, and all is as found (rule 24.8)
+unfoldable pub loadedCall : List ℕ → Memory → Reported
+loadedCall f l = cond (controlFits (l .control)) (loadedWith (loaded f (stateIn l))) (keptWith notSound l)

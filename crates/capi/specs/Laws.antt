@@ -12,9 +12,11 @@ use Rattle.state.specs.Soundness.{isSound}
 use Rattle.state.specs.declared.Control.{Control}
 use Rattle.rules.specs.Respond.{Effect, unsound, respond, jobOutcome, Served, servedWith, served}
 use Rattle.guarantees.specs.Fits.{response-fits}
+use Rattle.store_file.specs.Saved.{savedInto}
+use Rattle.store_file.specs.Loaded.{loaded}
 use Rattle.capi_control.specs.Words.{controlFits, controlOf, wordsOf}
 use Rattle.capi_control.specs.Laws.{words-control}
-use Rattle.capi.specs.Call.{Memory, stateIn, memoryOf, Responded, respondedWith, responded, codeUnit, resultOf, reportedWith, keptWith, jobGood, isVerdict, reported}
+use Rattle.capi.specs.Call.{Memory, stateIn, memoryOf, Responded, respondedWith, responded, codeUnit, resultOf, reportedWith, keptWith, jobGood, isVerdict, reported, partOf, savedCall, loadedWith, loadedCall}
 
 -- the memory l with other control words
 abbrev withControl : Memory → List ℕ → Memory
@@ -126,3 +128,36 @@ module _ (v : ℕ) (l : Memory) where
         ∙ ap reportedWith e
         ∙ ap (λ (x : Control). reportedWith (jobOutcome (eqb v jobGood) (stateOf x (l .table) (l .names) (l .committed) (l .staged) (l .image) (l .hash)))) e₁
         ∙ sym (report-is n)
+
+-- ---- a store file
+module _ (p : ℕ) (l : Memory) (b : List ℕ) where
+  pub save-not : controlFits (l .control) ≡ false → savedCall p l b ≡ record { code = notSound; len = 0; buffer = b }
+  unfolding savedCall
+  save-not f = rw f
+
+  -- the library's part is the C function's: r is the result, v the control block
+  pub save-fits : (r code len : ℕ) (v : Control) (z : List ℕ) → controlFits (l .control) ≡ true → r % codeUnit ≡ code → r / codeUnit ≡ len → v ≡ controlOf (l .control)
+      → record { code = code; len = len; buffer = z } ≡ savedInto p (stateOf v (l .table) (l .names) (l .committed) (l .staged) (l .image) (l .hash)) b
+      → partOf r z ≡ savedCall p l b
+  unfolding savedCall
+  save-fits r code len v z f e₁ e₂ e₃ e =
+      (λ j. record { code = e₁ j; len = e₂ j; buffer = z })
+      ∙ e
+      ∙ ap (λ (x : Control). savedInto p (stateOf x (l .table) (l .names) (l .committed) (l .staged) (l .image) (l .hash)) b) e₃
+      ∙ sym (rw f)
+
+module _ (x : List ℕ) (l : Memory) where
+  pub load-not : controlFits (l .control) ≡ false → loadedCall x l ≡ keptWith notSound l
+  unfolding loadedCall
+  load-not f = rw f
+
+  -- what the library leaves is what the C function leaves: b is the control block before, v after
+  pub load-fits : (code : ℕ) (b v : Control) (w n c g : List ℕ) → controlFits (l .control) ≡ true → b ≡ controlOf (l .control) → w ≡ wordsOf v
+      → record { code = code; state = stateOf v (l .table) n c g (l .image) (l .hash) } ≡ loaded x (stateOf b (l .table) (l .names) (l .committed) (l .staged) (l .image) (l .hash))
+      → record { code = code; memory = record { control = w; table = l .table; names = n; committed = c; staged = g; image = l .image; hash = l .hash } } ≡ loadedCall x l
+  unfolding loadedCall
+  load-fits code b v w n c g f e₁ e₂ e =
+      (λ j. record { code = code; memory = record { control = e₂ j; table = l .table; names = n; committed = c; staged = g; image = l .image; hash = l .hash } })
+      ∙ ap loadedWith e
+      ∙ ap (λ (y : Control). loadedWith (loaded x (stateOf y (l .table) (l .names) (l .committed) (l .staged) (l .image) (l .hash)))) e₁
+      ∙ sym (rw f)
