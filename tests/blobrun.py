@@ -101,13 +101,15 @@ def memory():
 def words():
     """Help; and what fails is one line on standard error, which begins with the program's name. The status is always 0."""
     out, err = run("--help")
-    expect("--help", (out.startswith("usage: blobrun [FILE]\n"), "exit status is always 0" in out, err), (True, True, ""))
+    expect("--help", (out.startswith("usage: blobrun [--load STORE] [--save STORE] [FILE]\n"), "exit status is always 0" in out, err), (True, True, ""))
     expect("-h", run("-h"), (out, ""))
     full = subprocess.run([str(PROGRAM), str(STORIES[0].with_suffix(".requests"))], stdout=open("/dev/full", "wb"), stderr=subprocess.PIPE, check=True).stderr.decode()
     cut = subprocess.run([str(PROGRAM)], input=b"\0", stdout=open("/dev/full", "wb"), stderr=subprocess.PIPE, check=True).stderr.decode()
     expect("a full disk", {full, cut}, {"blobrun: standard output: No space left on device\n"})
     for found, why in ((run(ROOT / "no such file"), f"{ROOT / 'no such file'}: No such file or directory"), (run(ROOT), f"{ROOT}: Is a directory"),
-                       (run("--version"), "--version: No such file or directory"), (run("x" * 5000), "the argument: File name too long"), (run("a", "b"), "at most one argument is taken (--help says more)")):
+                       (run("--version"), "there is no such option (--help says more)"), (run("x" * 5000), "a path is empty or too long (--help says more)"),
+                       (run("a", "b"), "a path is given twice (--help says more)"), (run("--load", "a", "--load", "b"), "a path is given twice (--help says more)"),
+                       (run("--save"), "an option has no path behind it (--help says more)"), (run("--load", ""), "a path is empty or too long (--help says more)")):
         expect(why, found, ("", f"blobrun: {why}\n"))
 
 

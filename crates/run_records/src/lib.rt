@@ -78,7 +78,7 @@ fn digit(n: u8) -> u8
 }
 
 // A byte's two digits are stored at a place.
-fn put_hex(text: &mut [u8], at: usize, b: u8)
+pub fn put_hex(text: &mut [u8], at: usize, b: u8)
     requires { ⌜ at + 2 ≤ length (now text) ⌝ }
     ensures { λ _. ⌜ now (text .exit) ≡ sets (now (text .entry)) at (hexOf b) ⌝ }
 {

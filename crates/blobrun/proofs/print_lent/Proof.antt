@@ -9,33 +9,30 @@ use Rattle.blobrun.proofs.print_lent.Statement.{statement}
 use Rattle.blobrun.proofs.print_lent.Tie as tie
 
 abbrev Inv-loop : tie.InvT-loop
-Inv-loop fd path table₀ names₀ committed₀ staged₀ image₀ hash₀ answer₀ input₀ text₀ control₀ filled₀ going₀ turns₀ table names committed staged image hash answer input text control
-    filled going turns =
+Inv-loop fd path table₀ names₀ committed₀ staged₀ image₀ hash₀ answer₀ input₀ text₀ next₀ filled₀ going₀ good₀ turns₀ table names committed staged image hash answer input text next
+    filled going good turns =
     (filled ≤ length input)
     × (length table ≡ length table₀) × (length names ≡ length names₀) × (length committed ≡ length committed₀) × (length staged ≡ length staged₀) × (length image ≡ length image₀)
     × (length hash ≡ length hash₀) × (length answer ≡ length answer₀) × (length input ≡ length input₀) × (length text ≡ length text₀)
 
 abbrev μ-loop : tie.MeasureT-loop
-μ-loop fd path table₀ names₀ committed₀ staged₀ image₀ hash₀ answer₀ input₀ text₀ control₀ filled₀ going₀ turns₀ table names committed staged image hash answer input text control filled going turns =
-    turns
+μ-loop fd path table₀ names₀ committed₀ staged₀ image₀ hash₀ answer₀ input₀ text₀ next₀ filled₀ going₀ good₀ turns₀ table names committed staged image hash answer input text next filled going good turns
+    = turns
 
 -- the places that the answers read
 abbrev at-loop : tie.After-take-turn-arg9 Inv-loop μ-loop → tie.At-loop Inv-loop μ-loop
 at-loop c = c .before .before .before .before .before .before .before .before .before .before
 
-abbrev in-loop : tie.After-control Inv-loop μ-loop → tie.In-loop Inv-loop μ-loop
+abbrev in-loop : tie.After-next Inv-loop μ-loop → tie.In-loop Inv-loop μ-loop
 in-loop c =
     c .before .before .before .before .before .before .before .before .before .before .before .before .before .before
     .before .before .before .before .before .before .before .before .before .before .before .before .before .before
     .before
 
-abbrev at-take-turn : tie.After-control Inv-loop μ-loop → tie.After-take-turn Inv-loop μ-loop
+abbrev at-take-turn : tie.After-next Inv-loop μ-loop → tie.After-take-turn Inv-loop μ-loop
 at-take-turn c =
     c .before .before .before .before .before .before .before .before .before .before .before .before .before .before
     .before .before .before .before .before
-
-fresh-requires : tie.Need-fresh-requires Inv-loop μ-loop
-fresh-requires c κs = tt
 
 loop-holds : tie.Need-loop-holds Inv-loop μ-loop
 loop-holds c = (omega arith, refl, refl, refl, refl, refl, refl, refl, refl, refl)
@@ -104,7 +101,6 @@ print-lent-spec =
     (tie.spec
     Inv-loop
     μ-loop
-    fresh-requires
     loop-holds
     take-turn-requires
     sub-turns

@@ -66,8 +66,8 @@ same-length-2 c = search needs
 returns-2 : tie.Need-returns-2
 returns-2 c = search needs
 
-add-t8 : tie.Need-add-t8
-add-t8 c = search needs
+add-t9 : tie.Need-add-t9
+add-t9 c = search needs
 
 same-length-3 : tie.Need-same-length-3
 same-length-3 c = search needs
@@ -95,6 +95,6 @@ read-more-spec =
     write-end-requires
     same-length-2
     returns-2
-    add-t8
+    add-t9
     same-length-3
     returns-3)
