@@ -1,4 +1,4 @@
-//! The completion codes (rules 7.1-7.11).
+//! The completion codes (rules 7.1-7.11, and those of store files in document 02, request b).
 
 #[derive(Clone, Copy, Debug, PartialEq, Eq)]
 pub struct Code(pub u8);
@@ -6,7 +6,7 @@ pub struct Code(pub u8);
 impl Code {
     /// 00: success.
     pub const SUCCESS: Code = Code(0x00);
-    /// FF: the state is not sound.
+    /// FF: the state is not sound, or a lent buffer has another length.
     pub const NOT_SOUND: Code = Code(0xFF);
     /// C7: wrong length of the message or its body.
     pub const LENGTH: Code = Code(0xC7);
@@ -16,7 +16,7 @@ impl Code {
     pub const SUBCOMMAND: Code = Code(0xC1);
     /// CB: blob or session not there.
     pub const ABSENT: Code = Code(0xCB);
-    /// C9: index of an Enumerate or offset of a Write out of range.
+    /// C9: index of an Enumerate, offset of a Write or part of a saved store out of range.
     pub const RANGE: Code = Code(0xC9);
     /// C8: a Write past the capacity.
     pub const CAPACITY: Code = Code(0xC8);
@@ -26,6 +26,28 @@ impl Code {
     pub const BUSY: Code = Code(0xC0);
     /// D5: this blob or session does not do that, or no job runs that could end.
     pub const NOT_SUPPORTED: Code = Code(0xD5);
+    /// E0: a store session is open while a store is to be loaded.
+    pub const STORE_OPEN: Code = Code(0xE0);
+    /// E1: a wire type other than the four that are read.
+    pub const WIRE_TYPE: Code = Code(0xE1);
+    /// E2: a field with the number 0.
+    pub const FIELD_ZERO: Code = Code(0xE2);
+    /// E3: a known field with another wire type than its own.
+    pub const FIELD_TYPE: Code = Code(0xE3);
+    /// E4: a number that is cut, or longer than ten bytes, or larger than 64 bits.
+    pub const WIRE_NUMBER: Code = Code(0xE4);
+    /// E5: counted bytes or a fixed value that reach past the end of their message.
+    pub const PAST_END: Code = Code(0xE5);
+    /// E6: the store file's base is missing or another.
+    pub const STORE_BASE: Code = Code(0xE6);
+    /// E7: a blob of the store file has no name, or one that is no store name.
+    pub const STORE_NAME: Code = Code(0xE7);
+    /// E8: two blobs of the store file have the same name.
+    pub const STORE_REPEAT: Code = Code(0xE8);
+    /// E9: a blob of the store file has more data than a slot holds.
+    pub const STORE_DATA: Code = Code(0xE9);
+    /// EA: the store file has more blobs than there are slots.
+    pub const STORE_BLOBS: Code = Code(0xEA);
 
     pub fn number(self) -> u32 {
         u32::from(self.0)

@@ -5,7 +5,7 @@
 
 use crate::crc::crc;
 use crate::message::{self, OEM};
-use crate::names::{pad, Flash};
+use crate::names::{characters, pad, Flash};
 use crate::state::{
     Memory, Row, COMMITTED_LENGTHS, CONTROL_WORDS, FLAGS_FLASH, FLAGS_READ, FLAGS_READ_WRITE, HASH_CAPACITY,
     HASH_LENGTH, IMAGE_CAPACITY, IMAGE_LENGTH, LAST_SWEEP, NAME_BYTES, NEXT_IDENTIFIER, PHASE, ROWS, ROWS_USED,
@@ -123,6 +123,19 @@ impl OwnedMemory {
         &mut self.names[slot * NAME_BYTES..(slot + 1) * NAME_BYTES]
     }
 
+    /// The names and scans of the committed slots, ascending.
+    pub fn committed_scans(&self) -> Vec<(Vec<u8>, Vec<u8>)> {
+        let committed = (0..SLOTS).filter(|slot| self.slot_committed(*slot));
+        committed
+            .map(|slot| (characters(self.name(slot)).to_vec(), self.scan(slot).to_vec()))
+            .collect()
+    }
+
+    fn scan(&self, slot: usize) -> &[u8] {
+        let length = self.control[COMMITTED_LENGTHS + slot] as usize;
+        &self.committed[region(slot)][..length]
+    }
+
     pub fn row_of_slot(&self, slot: usize) -> Option<usize> {
         self.used_rows()
             .into_iter()
@@ -176,6 +189,10 @@ pub trait Implementation {
     fn respond(&mut self, request: &[u8], clock: u32, memory: &mut OwnedMemory, answer: &mut Vec<u8>) -> u32;
     /// Completion code. The verdict is 1 for good, 0 for failed; any other is refused.
     fn job_outcome(&mut self, verdict: u32, memory: &mut OwnedMemory) -> u32;
+    /// Completion code + 256 × the part's length.
+    fn save_part(&mut self, part: u32, memory: &mut OwnedMemory, buffer: &mut Vec<u8>) -> u32;
+    /// Completion code.
+    fn load(&mut self, file: &[u8], memory: &mut OwnedMemory) -> u32;
 }
 
 /// This package's implementation.
@@ -188,6 +205,14 @@ impl Implementation for Second {
 
     fn job_outcome(&mut self, verdict: u32, memory: &mut OwnedMemory) -> u32 {
         crate::job_outcome(verdict, &mut memory.lend())
+    }
+
+    fn save_part(&mut self, part: u32, memory: &mut OwnedMemory, buffer: &mut Vec<u8>) -> u32 {
+        crate::save_part(part, &memory.lend(), buffer)
+    }
+
+    fn load(&mut self, file: &[u8], memory: &mut OwnedMemory) -> u32 {
+        crate::load(file, &mut memory.lend())
     }
 }
 
@@ -385,10 +410,20 @@ pub fn random_length(random: &mut Random, capacity: u32) -> u32 {
 
 /// A sound state not made by a history: bytes behind lengths, and in regions that soundness leaves free, are rubbish.
 pub fn random_sound_state(random: &mut Random) -> OwnedMemory {
+    sound_state(random, &[20, 60, 100])
+}
+
+/// The same, but no slot has a session; the flash may have one.
+pub fn random_state_without_store_sessions(random: &mut Random) -> OwnedMemory {
+    sound_state(random, &[0])
+}
+
+/// The chance of a session on a used slot, in percent, is one of these.
+fn sound_state(random: &mut Random, session_percents: &[u64]) -> OwnedMemory {
     let mut memory = OwnedMemory::fresh();
     let clock = random_clock(random);
     let mut rows = Vec::new();
-    fill_slots(random, &mut memory, &mut rows);
+    fill_slots(random, session_percents, &mut memory, &mut rows);
     fill_flash(random, &mut memory, &mut rows);
     random.shuffle(&mut rows);
     // Sixteen slots may have a session each; with the flash row that is one too many. The flash row goes.
@@ -419,9 +454,9 @@ pub fn near(random: &mut Random, clock: u32, most: u32) -> u32 {
     }
 }
 
-fn fill_slots(random: &mut Random, memory: &mut OwnedMemory, rows: &mut Vec<Row>) {
+fn fill_slots(random: &mut Random, session_percents: &[u64], memory: &mut OwnedMemory, rows: &mut Vec<Row>) {
     let percent = random.pick(&[0, 15, 50, 90, 100]);
-    let session_percent = random.pick(&[20, 60, 100]);
+    let session_percent = random.pick(session_percents);
     for slot in 0..SLOTS {
         if random.chance(percent) {
             let session = random.chance(session_percent);

@@ -1,7 +1,8 @@
-//! Second implementation of the blob cabinet, written from document 01 alone, in plain Rust.
+//! Second implementation of the blob cabinet in plain Rust, written from document 01, and its store files from document
+//! 02 (request b) and the readings of it.
 //!
 //! The comments cite the rule of docs/PROTOCOL.md that a place follows; the rules were written later, and the code owes
-//! them nothing. Where document 01 leaves a choice, "Reading" and a number point to READINGS.md.
+//! them nothing. Where the documents leave a choice, "Reading" and a number point to READINGS.md.
 
 #![deny(unsafe_code)]
 
@@ -19,7 +20,7 @@ macro_rules! implementation {
     )*};
 }
 
-implementation!(code, commands, crc, message, names, run, state, sweep);
+implementation!(code, commands, crc, message, names, run, state, store_file, sweep, wire);
 
 pub mod harness;
 #[cfg(feature = "library")]
@@ -27,3 +28,4 @@ pub mod library;
 
 pub use commands::{job_outcome, respond};
 pub use state::{is_sound, Memory};
+pub use store_file::{load, save_part};

@@ -22,6 +22,24 @@ extern "C" {
         staged: *const u8, staged_len: usize, image: *const u8, image_len: usize,
         hash: *const u8, hash_len: usize,
     ) -> u32;
+
+    /// Gives the completion code + 256 × the part's length.
+    fn kramsnep_save_part(
+        part: u32,
+        control: *const u32, control_len: usize, table: *const u32, table_len: usize,
+        names: *const u8, names_len: usize, committed: *const u8, committed_len: usize,
+        staged: *const u8, staged_len: usize, image: *const u8, image_len: usize,
+        hash: *const u8, hash_len: usize, buffer: *mut u8, buffer_len: usize,
+    ) -> u32;
+
+    /// Gives the completion code.
+    fn kramsnep_load(
+        file: *const u8, file_len: usize,
+        control: *mut u32, control_len: usize, table: *const u32, table_len: usize,
+        names: *mut u8, names_len: usize, committed: *mut u8, committed_len: usize,
+        staged: *mut u8, staged_len: usize, image: *const u8, image_len: usize,
+        hash: *const u8, hash_len: usize,
+    ) -> u32;
 }
 
 /// The first implementation, linked as a static library.
@@ -55,6 +73,36 @@ impl Implementation for Library {
                 m.control.as_mut_ptr(), m.control.len(), m.table.as_mut_ptr(), m.table.len(),
                 m.names.as_ptr(), m.names.len(), m.committed.as_ptr(), m.committed.len(),
                 m.staged.as_ptr(), m.staged.len(), m.image.as_ptr(), m.image.len(),
+                m.hash.as_ptr(), m.hash.len(),
+            )
+        }
+    }
+
+    #[rustfmt::skip]
+    fn save_part(&mut self, part: u32, memory: &mut OwnedMemory, buffer: &mut Vec<u8>) -> u32 {
+        let m = memory;
+        // As above; only the buffer is written.
+        unsafe {
+            kramsnep_save_part(
+                part,
+                m.control.as_ptr(), m.control.len(), m.table.as_ptr(), m.table.len(),
+                m.names.as_ptr(), m.names.len(), m.committed.as_ptr(), m.committed.len(),
+                m.staged.as_ptr(), m.staged.len(), m.image.as_ptr(), m.image.len(),
+                m.hash.as_ptr(), m.hash.len(), buffer.as_mut_ptr(), buffer.len(),
+            )
+        }
+    }
+
+    #[rustfmt::skip]
+    fn load(&mut self, file: &[u8], memory: &mut OwnedMemory) -> u32 {
+        let m = memory;
+        // As above.
+        unsafe {
+            kramsnep_load(
+                file.as_ptr(), file.len(),
+                m.control.as_mut_ptr(), m.control.len(), m.table.as_ptr(), m.table.len(),
+                m.names.as_mut_ptr(), m.names.len(), m.committed.as_mut_ptr(), m.committed.len(),
+                m.staged.as_mut_ptr(), m.staged.len(), m.image.as_ptr(), m.image.len(),
                 m.hash.as_ptr(), m.hash.len(),
             )
         }

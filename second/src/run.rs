@@ -6,9 +6,9 @@ use crate::state::{
     SLOT_CAPACITY,
 };
 
-/// Everything the program writes for these input bytes.
-pub fn run(mut input: &[u8]) -> String {
-    let mut memory = Memory {
+/// Does this work on memory of its own, which is fresh (rule 5.11).
+pub fn on_fresh_memory<T>(work: impl FnOnce(&mut Memory) -> T) -> T {
+    work(&mut Memory {
         control: &mut [0; CONTROL_WORDS],
         table: &mut [0; ROWS.saturating_mul(ROW_WORDS)],
         names: &mut [0; SLOTS.saturating_mul(NAME_BYTES)],
@@ -16,12 +16,16 @@ pub fn run(mut input: &[u8]) -> String {
         staged: &mut [0; SLOTS.saturating_mul(SLOT_CAPACITY)],
         image: &mut [0; IMAGE_CAPACITY],
         hash: &mut [0; HASH_CAPACITY],
-    };
+    })
+}
+
+/// Everything the program writes for these input bytes, beginning with this memory.
+pub fn run(mut input: &[u8], memory: &mut Memory) -> String {
     let mut lines = String::new();
     while !input.is_empty() {
         match record(input) {
             Some((clock, message, rest)) => {
-                lines.push_str(&line(message, clock, &mut memory));
+                lines.push_str(&line(message, clock, memory));
                 input = rest;
             }
             None => {

@@ -11,7 +11,7 @@
 mod parts;
 
 use parts::tally::Tally;
-use parts::{histories, merges, messages, states, unsound, Share, WORKERS};
+use parts::{histories, merges, messages, states, store_files, unsound, Share, WORKERS};
 use std::process::ExitCode;
 use std::sync::Mutex;
 use std::time::{Duration, Instant};
@@ -30,6 +30,14 @@ const PARTS: &[Part] = &[
     ("every bit", messages::every_bit),
     ("every edge", messages::every_edge),
     ("merges", merges::merges),
+    ("saved stores", store_files::saved),
+    ("valid store files", store_files::valid),
+    ("store file limits", store_files::limits),
+    ("store file faults", store_files::faults),
+    ("two faults", store_files::two_faults),
+    ("cut store files", store_files::cut),
+    ("store file bytes", store_files::every_byte),
+    ("damaged files", store_files::damaged),
 ];
 
 /// The result of one worker's share of a part.

@@ -1,9 +1,13 @@
-//! The examples of docs/PROTOCOL.md and of document 01, four errors that are easily made, and each completion code
-//! (rules 7.1-7.11).
+//! The examples of docs/PROTOCOL.md and of document 01, four errors that are easily made, each completion code (rules
+//! 7.1-7.11), and store files byte by byte.
 
+use second::code::Code;
 use second::crc::crc;
 use second::harness::{self as h, Implementation, OwnedMemory, Second, OTHER};
-use second::state::{COMMITTED_LENGTHS, LAST_SWEEP, NEXT_IDENTIFIER, PHASE, STAGED_LENGTHS};
+use second::state::{
+    COMMITTED_LENGTHS, LAST_SWEEP, NEXT_IDENTIFIER, PHASE, SLOTS_COMMITTED, SLOTS_USED, STAGED_LENGTHS,
+};
+use second::wire::{push_counted, push_number, Field, Fields, Kind, Value};
 
 /// A cabinet from a fresh state, with a clock that the tests set.
 struct Cabinet {
@@ -247,9 +251,13 @@ fn record(clock: u32, message: &[u8]) -> Vec<u8> {
     [&clock.to_le_bytes()[..], &[message.len() as u8], message].concat()
 }
 
+/// What the program writes, beginning with the fresh state.
+fn run(input: &[u8]) -> String {
+    second::run::on_fresh_memory(|memory| second::run::run(input, memory))
+}
+
 #[test]
 fn program_lines() {
-    use second::run::run;
     assert_eq!(run(&[]), "");
     let refused = [
         record(0, &[]),
@@ -269,7 +277,6 @@ fn program_lines() {
 
 #[test]
 fn program_cut_records() {
-    use second::run::run;
     let whole = [record(0, &h::count()), record(0, &[1, 2, 3])].concat();
     let first = record(0, &h::count()).len();
     let count_line = run(&record(0, &h::count()));
@@ -289,9 +296,9 @@ fn program_cut_records() {
 fn program_answers_after_65_bytes() {
     let mut message = h::write(0, 0, &[1; 52]);
     assert_eq!(message.len(), 64);
-    assert_eq!(second::run::run(&record(0, &message)), "CB\n");
+    assert_eq!(run(&record(0, &message)), "CB\n");
     message = h::write(0, 0, &[1; 53]);
-    assert_eq!(second::run::run(&record(0, &message)), "C7\n");
+    assert_eq!(run(&record(0, &message)), "C7\n");
 }
 
 // ---- The completion codes ----
@@ -725,6 +732,8 @@ fn no_memory_makes_it_panic() {
         let request = random.bytes(lengths[8]);
         assert_eq!(Second.respond(&request, random.word(), &mut memory, &mut answer), 0xFF);
         assert_eq!(Second.job_outcome(random.word(), &mut memory), 0xFF);
+        assert_eq!(Second.save_part(random.word(), &mut memory, &mut vec![0; 4200]), 0xFF);
+        assert_eq!(Second.load(&request, &mut memory), 0xFF);
     }
 }
 
@@ -770,4 +779,343 @@ fn error_4_shared_time() {
     cabinet.session_stat(early);
     cabinet.session_stat(late);
     assert_eq!((cabinet.memory.row(0).stamp, cabinet.memory.row(1).stamp), (20, 500));
+}
+
+// ---- The wire encoding ----
+
+const NO_FIELD_KNOWN: fn(u64) -> Option<Kind> = |_| None;
+
+#[test]
+fn numbers_in_shortest_form() {
+    for (number, bytes) in [
+        (0, &[0x00][..]),
+        (1, &[0x01]),
+        (127, &[0x7F]),
+        (128, &[0x80, 0x01]),
+        (150, &[0x96, 0x01]),
+        (300, &[0xAC, 0x02]),
+        (16_384, &[0x80, 0x80, 0x01]),
+        (u64::MAX, &[0xFF, 0xFF, 0xFF, 0xFF, 0xFF, 0xFF, 0xFF, 0xFF, 0xFF, 0x01]),
+    ] {
+        let mut written = Vec::new();
+        push_number(&mut written, number);
+        assert_eq!(written, bytes);
+        // As the value of field 3.
+        let message = [&[0x18][..], bytes].concat();
+        let value = Value::Number(number);
+        let fields: Vec<_> = Fields::new(&message, NO_FIELD_KNOWN).collect();
+        assert_eq!(fields, [Ok(Field { number: 3, value })]);
+    }
+}
+
+#[test]
+fn fields_of_every_kind() {
+    let mut message = vec![0x08, 0x96, 0x01];
+    push_counted(&mut message, 2, b"testing");
+    assert_eq!(message[3..], *b"\x12\x07testing");
+    message.extend([0x1D, 1, 2, 3, 4]);
+    message.extend([0x21, 1, 2, 3, 4, 5, 6, 7, 8]);
+    let fields: Vec<_> = Fields::new(&message, NO_FIELD_KNOWN).collect();
+    let field = |number, value| Ok(Field { number, value });
+    assert_eq!(
+        fields,
+        [
+            field(1, Value::Number(150)),
+            field(2, Value::Counted(b"testing")),
+            field(3, Value::FourBytes([1, 2, 3, 4])),
+            field(4, Value::EightBytes([1, 2, 3, 4, 5, 6, 7, 8])),
+        ]
+    );
+}
+
+/// A fault ends the walk: nothing comes behind it.
+#[test]
+fn a_walk_ends_at_its_first_fault() {
+    let message = [0x18, 0x01, 0x1B, 0x18, 0x01];
+    let fields: Vec<_> = Fields::new(&message, NO_FIELD_KNOWN).collect();
+    let value = Value::Number(1);
+    assert_eq!(fields, [Ok(Field { number: 3, value }), Err(Code::WIRE_TYPE)]);
+}
+
+// ---- Store files ----
+
+const EMPTY_STORE: [u8; 8] = [0x0A, 0x06, 0x2F, 0x73, 0x63, 0x61, 0x6E, 0x2F];
+
+impl Cabinet {
+    /// The code and the part.
+    fn save_part(&mut self, part: u32) -> (u8, Vec<u8>) {
+        let before = self.memory.clone();
+        let mut buffer = vec![0xEE; 4200];
+        let result = Second.save_part(part, &mut self.memory, &mut buffer);
+        let length = (result >> 8) as usize;
+        assert!(buffer[length..].iter().all(|byte| *byte == 0xEE));
+        assert!(self.memory == before);
+        let mut other_buffer = vec![0xEE; 4200];
+        let other_result = { OTHER }.save_part(part, &mut self.memory, &mut other_buffer);
+        assert!((other_result, other_buffer) == (result, buffer.clone()));
+        assert!(self.memory == before);
+        ((result & 0xFF) as u8, buffer[..length].to_vec())
+    }
+
+    /// All parts end to end.
+    fn save(&mut self) -> Vec<u8> {
+        let parts = (0..).map(|part| self.save_part(part));
+        let file: Vec<u8> = parts
+            .take_while(|(code, _)| *code == 0)
+            .flat_map(|(_, bytes)| bytes)
+            .collect();
+        assert_eq!(second::store_file::save(&self.memory.lend()).as_ref(), Some(&file));
+        file
+    }
+
+    fn load(&mut self, file: &[u8]) -> u8 {
+        let before = self.memory.clone();
+        let mut other = before.clone();
+        let code = Second.load(file, &mut self.memory);
+        assert!(self.memory.is_sound());
+        assert!(code == 0 || self.memory == before);
+        assert_eq!({ OTHER }.load(file, &mut other), code);
+        assert!(self.memory == other);
+        code as u8
+    }
+
+    /// A committed scan of this length; its session is closed.
+    fn store(&mut self, name: &str, length: u32) {
+        let session = self.open(3, name);
+        self.fill(session, length);
+        assert_eq!(self.code(&h::commit(session)), 0);
+        assert_eq!(self.code(&h::close(session)), 0);
+    }
+}
+
+/// The base, then these bytes.
+fn behind_base(bytes: &[u8]) -> Vec<u8> {
+    [&EMPTY_STORE[..], bytes].concat()
+}
+
+#[test]
+fn save_of_an_empty_store() {
+    let mut cabinet = Cabinet::fresh();
+    assert_eq!(cabinet.save_part(0), (0, EMPTY_STORE.to_vec()));
+    for part in [1, 2, 16, 17, 256, u32::MAX] {
+        assert_eq!(cabinet.save_part(part), (0xC9, Vec::new()));
+    }
+    assert_eq!(cabinet.save(), EMPTY_STORE);
+}
+
+#[test]
+fn save_of_two_scans() {
+    let mut cabinet = Cabinet::fresh();
+    cabinet.store("/scan/ab", 3);
+    cabinet.store("/scan/c", 0);
+    assert_eq!(cabinet.save_part(0), (0, EMPTY_STORE.to_vec()));
+    let first = [b"\x12\x0F\x0A\x08/scan/ab\x12\x03".to_vec(), vec![0, 1, 2]].concat();
+    assert_eq!(cabinet.save_part(1), (0, first.clone()));
+    // An empty scan has its data field too.
+    let second = b"\x12\x0B\x0A\x07/scan/c\x12\x00".to_vec();
+    assert_eq!(cabinet.save_part(2), (0, second.clone()));
+    assert_eq!(cabinet.save_part(3).0, 0xC9);
+    assert_eq!(cabinet.save(), behind_base(&[first, second].concat()));
+}
+
+/// A scan of 150 bytes: its length is `96 01`, and that of the blob 164, `A4 01`.
+#[test]
+fn save_of_150_bytes() {
+    let mut cabinet = Cabinet::fresh();
+    cabinet.store("/scan/abc", 150);
+    let data: Vec<u8> = (0..150).collect();
+    let part = [&b"\x12\xA4\x01\x0A\x09/scan/abc\x12\x96\x01"[..], &data].concat();
+    assert_eq!(cabinet.save_part(1), (0, part));
+}
+
+/// The longest part: 25 letters and 4,096 bytes.
+#[test]
+fn save_of_the_longest_part() {
+    let mut cabinet = Cabinet::fresh();
+    cabinet.store("/scan/abcdefghijklmnopqrstuvwxy", 4096);
+    let (code, part) = cabinet.save_part(1);
+    assert_eq!((code, part.len()), (0, 4135));
+    assert_eq!(part[..5], [0x12, 0xA4, 0x20, 0x0A, 0x1F]);
+    assert_eq!(part[36..39], [0x12, 0x80, 0x20]);
+}
+
+/// What is staged is not saved, and a new name not at all; committed slots come in their order.
+#[test]
+fn save_beside_sessions() {
+    let mut cabinet = Cabinet::fresh();
+    let new = cabinet.open(3, "/scan/new");
+    cabinet.fill(new, 9);
+    cabinet.store("/scan/b", 1);
+    cabinet.store("/scan/a", 1);
+    let writer = cabinet.open(3, "/scan/b");
+    cabinet.fill(writer, 50);
+    let file = behind_base(b"\x12\x0C\x0A\x07/scan/b\x12\x01\x00\x12\x0C\x0A\x07/scan/a\x12\x01\x00");
+    assert_eq!(cabinet.save(), file);
+    assert_eq!(cabinet.load(&file), 0xE0);
+}
+
+#[test]
+fn save_into_other_buffers() {
+    let mut memory = OwnedMemory::fresh();
+    for length in [0, 8, 64, 4199, 4201] {
+        let mut buffer = vec![0xEE; length];
+        assert_eq!(Second.save_part(0, &mut memory, &mut buffer), 0xFF);
+        assert_eq!(Second.save_part(9, &mut memory, &mut buffer), 0xFF);
+        assert_eq!(buffer, vec![0xEE; length]);
+    }
+    memory.control[PHASE] = 3;
+    assert_eq!(Second.save_part(0, &mut memory, &mut vec![0; 4200]), 0xFF);
+    assert_eq!(Second.load(&EMPTY_STORE, &mut memory), 0xFF);
+    memory.control[PHASE] = 0;
+    memory.staged.push(0);
+    assert_eq!(Second.save_part(0, &mut memory, &mut vec![0; 4200]), 0xFF);
+    assert_eq!(Second.load(&EMPTY_STORE, &mut memory), 0xFF);
+}
+
+/// The file replaces the store: other names, other slots, no byte of the old scans.
+#[test]
+fn load_replaces_the_store() {
+    let mut cabinet = Cabinet::fresh();
+    for name in ["/scan/one", "/scan/two", "/scan/three"] {
+        cabinet.store(name, 200);
+    }
+    let image = cabinet.open(2, "/flash/image");
+    cabinet.fill(image, 60);
+    let before = cabinet.memory.clone();
+    let file = behind_base(b"\x12\x0D\x0A\x07/scan/b\x12\x02xy\x12\x09\x0A\x07/scan/a");
+    assert_eq!(cabinet.load(&file), 0);
+    let scans = [(b"/scan/b", b"xy".to_vec()), (b"/scan/a", Vec::new())];
+    let scans = scans.map(|(name, data)| (name.to_vec(), data));
+    assert_eq!(cabinet.memory.committed_scans(), scans);
+    assert_eq!(cabinet.memory.control[SLOTS_USED], 3);
+    assert_eq!(cabinet.memory.control[SLOTS_COMMITTED], 3);
+    assert_eq!(cabinet.memory.committed[..3], *b"xy\0");
+    assert!(cabinet.memory.committed[2..].iter().all(|byte| *byte == 0));
+    assert_eq!(cabinet.memory.control[STAGED_LENGTHS], 0);
+    assert_eq!(cabinet.memory.table, before.table);
+    assert_eq!(cabinet.memory.image, before.image);
+    assert_eq!(cabinet.memory.control[PHASE..], before.control[PHASE..]);
+    assert_eq!(cabinet.listed()[..3], ["/scan/", "/scan/b", "/scan/a"]);
+    assert_eq!(cabinet.load(&EMPTY_STORE), 0);
+    assert_eq!(cabinet.memory.names, OwnedMemory::fresh().names);
+}
+
+#[test]
+fn e0_store_session() {
+    let mut cabinet = Cabinet::fresh();
+    let flash = cabinet.open(2, "/flash/cleanup");
+    assert_eq!(cabinet.load(&EMPTY_STORE), 0);
+    assert_eq!(cabinet.code(&h::close(flash)), 0);
+    cabinet.store("/scan/a", 1);
+    for flags in [1, 3] {
+        let session = cabinet.open(flags, "/scan/a");
+        // Before every fault of the file.
+        for file in [&EMPTY_STORE[..], b"", b"\x03", b"\x12\x00"] {
+            assert_eq!(cabinet.load(file), 0xE0);
+        }
+        assert_eq!(cabinet.code(&h::close(session)), 0);
+    }
+    assert_eq!(cabinet.load(&EMPTY_STORE), 0);
+}
+
+#[test]
+fn e1_to_e5_wire_faults() {
+    let ten_and_more = [0x80; 11];
+    let too_large = [0xFF, 0xFF, 0xFF, 0xFF, 0xFF, 0xFF, 0xFF, 0xFF, 0xFF, 0x02];
+    let mut cabinet = Cabinet::fresh();
+    for (fault, code) in [
+        (&[0x1B][..], 0xE1),
+        (&[0x03], 0xE1),
+        (&[0x0C], 0xE1),
+        (&[0x00, 0x00], 0xE2),
+        (&[0x02, 0x00], 0xE2),
+        (&[0x08, 0x00], 0xE3),
+        (&[0x11], 0xE3),
+        (&[0x15], 0xE3),
+        (&[0x18], 0xE4),
+        (&[0x18, 0x80], 0xE4),
+        (&[0x1A], 0xE4),
+        (&[0x80], 0xE4),
+        (&ten_and_more, 0xE4),
+        (&too_large, 0xE4),
+        (&[0x1A, 0x01], 0xE5),
+        (&[0x0A, 0x02, 0x00], 0xE5),
+        (&[0x19, 0, 0, 0, 0, 0, 0, 0], 0xE5),
+        (&[0x1D, 0, 0, 0], 0xE5),
+    ] {
+        assert_eq!(cabinet.load(&behind_base(fault)), code, "{fault:02X?}");
+        // Within a blob, with a field behind it that is long enough for every value.
+        let blob = [&[0x12, fault.len() as u8][..], fault, b"\x4A\x0Cabcdefghijkl"].concat();
+        assert_eq!(cabinet.load(&behind_base(&blob)), code, "{blob:02X?}");
+    }
+}
+
+/// The fault nearest to the front; a length past the end before what is inside.
+#[test]
+fn wire_faults_front_to_back() {
+    let mut cabinet = Cabinet::fresh();
+    for (file, code) in [
+        (&[0x12, 0x01, 0x00, 0x1B][..], 0xE2),
+        (&[0x1A, 0x01, 0x00, 0x1B], 0xE1),
+        (&[0x12, 0x02, 0x00], 0xE5),
+        (&[0x12, 0x00, 0x08], 0xE3),
+    ] {
+        assert_eq!(cabinet.load(file), code, "{file:02X?}");
+    }
+}
+
+#[test]
+fn e6_to_ea_contents() {
+    let name = |number: usize| format!("/scan/n{number:02}").into_bytes();
+    let blob = |name: &[u8], data: &[u8]| {
+        let mut blob = Vec::new();
+        push_counted(&mut blob, 1, name);
+        push_counted(&mut blob, 2, data);
+        let mut part = Vec::new();
+        push_counted(&mut part, 2, &blob);
+        part
+    };
+    let blobs = |count| {
+        (0..count)
+            .flat_map(|number| blob(&name(number), b"1"))
+            .collect::<Vec<u8>>()
+    };
+    let mut cabinet = Cabinet::fresh();
+    assert_eq!(cabinet.load(&[]), 0xE6);
+    assert_eq!(cabinet.load(b"\x0A\x05/scan"), 0xE6);
+    assert_eq!(cabinet.load(&behind_base(b"\x0A\x00")), 0xE6);
+    assert_eq!(cabinet.load(&behind_base(b"\x12\x00")), 0xE7);
+    assert_eq!(cabinet.load(&behind_base(&blob(b"/scan/a\0", b""))), 0xE7);
+    assert_eq!(cabinet.load(&behind_base(&[blobs(1), blobs(1)].concat())), 0xE8);
+    assert_eq!(cabinet.load(&behind_base(&blob(b"/scan/a", &[0; 4097]))), 0xE9);
+    assert_eq!(cabinet.load(&behind_base(&blob(b"/scan/a", &[0; 4096]))), 0);
+    assert_eq!(cabinet.load(&behind_base(&blobs(17))), 0xEA);
+    assert_eq!(cabinet.load(&behind_base(&blobs(16))), 0);
+    // Each comes before the next, wherever it stands.
+    let long = blob(b"/scan/long", &[0; 4097]);
+    let all = [blobs(17), long, blobs(1), b"\x12\x00".to_vec()].concat();
+    assert_eq!(cabinet.load(&all), 0xE6);
+    assert_eq!(cabinet.load(&behind_base(&all)), 0xE7);
+    assert_eq!(cabinet.load(&behind_base(&all[..all.len() - 2])), 0xE8);
+}
+
+/// Of a single field that comes twice the last counts; fields that are not known are skipped.
+#[test]
+fn load_of_other_forms() {
+    let mut cabinet = Cabinet::fresh();
+    let blob = b"\x12\x02xy\x0A\x01?\x0A\x07/scan/a\x12\x01z\x18\x96\x01";
+    let file = [
+        &b"\x12\x16"[..],
+        blob,
+        // Settings, and a field above 2^29, with other types than document 003 gives them.
+        b"\x1A\x01m\x25sixn\x2D\x01\x02\x03\x04\x80\x80\x80\x80\x80\x01\x00",
+        b"\x0A\x00",
+        // The base with a key of ten bytes and a length of three.
+        b"\x8A\x80\x80\x80\x80\x80\x80\x80\x80\x00\x86\x80\x00/scan/",
+    ]
+    .concat();
+    assert_eq!(blob.len(), 0x16);
+    assert_eq!(cabinet.load(&file), 0);
+    let scans = cabinet.memory.committed_scans();
+    assert_eq!(scans, [(b"/scan/a".to_vec(), b"z".to_vec())]);
 }

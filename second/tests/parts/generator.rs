@@ -1,10 +1,12 @@
 //! Chooses requests by looking at the current memory, so that histories go deep.
 
+use super::files;
 use super::pair::Step;
 use second::harness::{self, OwnedMemory, Random};
 use second::message;
 use second::names::{characters, Flash};
 use second::state::{LAST_SWEEP, NEXT_IDENTIFIER, PHASE};
+use second::store_file::PART_BYTES;
 
 /// What a history is mostly about.
 #[derive(Clone, Copy, Debug, PartialEq, Eq)]
@@ -32,9 +34,11 @@ pub const PROFILES: [Profile; 6] = [
     Profile::Turnover,
 ];
 
-/// The kinds of request: the eleven subcommands and the job outcome.
-pub const KINDS: u8 = 12;
-const OUTCOME: u8 = 11;
+/// The kinds of request: the eleven subcommands, the job outcome, and the two calls for store files.
+pub const KINDS: u8 = 14;
+pub const OUTCOME: u8 = 11;
+pub const SAVE_PART: u8 = 12;
+pub const LOAD: u8 = 13;
 
 /// A verdict on a job: good in so many of a hundred, now and then one that is none.
 pub fn verdict(random: &mut Random, good: u64) -> u32 {
@@ -125,6 +129,10 @@ impl Generator {
 
     /// The next step of a history.
     pub fn next(&mut self, memory: &OwnedMemory) -> Step {
+        if self.random.chance(1) {
+            let kind = self.random.pick(&[SAVE_PART, LOAD]);
+            return self.of_kind(kind, memory);
+        }
         if self.random.chance(45) && (self.profile == Profile::Flash || self.random.chance(6)) {
             return self.flash_order(memory);
         }
@@ -210,8 +218,11 @@ impl Generator {
 
     /// A step of this kind.
     pub fn of_kind(&mut self, kind: u8, memory: &OwnedMemory) -> Step {
-        if kind == OUTCOME {
-            return Step::Outcome(verdict(&mut self.random, 60));
+        match kind {
+            OUTCOME => return Step::Outcome(verdict(&mut self.random, 60)),
+            SAVE_PART => return self.save_part(),
+            LOAD => return Step::Load(files::any(&mut self.random)),
+            _ => {}
         }
         let mut bytes = self.message(kind, memory);
         if self.random.chance(3) {
@@ -240,6 +251,17 @@ impl Generator {
             message::STAT => self.named(message::STAT, memory),
             message::SESSION_STAT => harness::session_stat(self.session(memory)),
             _ => self.write(memory, harness::write_meta),
+        }
+    }
+
+    /// Mostly a part that there may be, and a buffer of the right length.
+    fn save_part(&mut self) -> Step {
+        let any = self.random.word();
+        let likely = self.random.below(19) as u32;
+        let length = self.random.below(5000) as usize;
+        Step::SavePart {
+            part: self.random.pick(&[0, likely, likely, likely, likely, any]),
+            buffer: if self.random.chance(95) { PART_BYTES } else { length },
         }
     }
 

@@ -2,7 +2,7 @@
 
 use super::generator::{verdict, Generator, Profile};
 use super::pair::{run, Step};
-use super::tally::{command_of, Tally, OUTCOME};
+use super::tally::Tally;
 use super::Share;
 use second::harness::{self, near, random_sound_state, Implementation, OwnedMemory, Random, Second, OTHER};
 use second::names::Flash;
@@ -78,11 +78,7 @@ fn same_state(one: &OwnedMemory, other: &OwnedMemory, what: &str, seed: u64) {
 
 fn count(lists: &[Vec<Step>], replies: &[Vec<Reply>], tally: &mut Tally) {
     for (step, (result, _)) in lists.iter().flatten().zip(replies.iter().flatten()) {
-        let command = match step {
-            Step::Message { bytes, .. } => command_of(bytes),
-            Step::Outcome(_) => OUTCOME,
-        };
-        tally.count(command, (result & 0xFF) as u8);
+        tally.count(step.command(), (result & 0xFF) as u8);
     }
     // Each request ran in this many orders.
     let all: usize = lists.iter().map(Vec::len).sum();

@@ -1,12 +1,14 @@
 //! The parts of the differential test. Each part runs its share of the work for one of the workers.
 
 pub mod breakers;
+pub mod files;
 pub mod generator;
 pub mod histories;
 pub mod merges;
 pub mod messages;
 pub mod pair;
 pub mod states;
+pub mod store_files;
 pub mod tally;
 pub mod unsound;
 

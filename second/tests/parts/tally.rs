@@ -5,7 +5,9 @@ use std::collections::BTreeMap;
 /// The rows of the table: the eleven commands by subcommand, then these.
 pub const FRAME: usize = 11;
 pub const OUTCOME: usize = 12;
-pub const COMMANDS: [&str; 13] = [
+pub const SAVE_PART: usize = 13;
+pub const LOAD: usize = 14;
+pub const COMMANDS: [&str; 15] = [
     "Count",
     "Enumerate",
     "Open",
@@ -19,12 +21,20 @@ pub const COMMANDS: [&str; 13] = [
     "WriteMeta",
     "(frame)",
     "Job outcome",
+    "Save part",
+    "Load",
 ];
 pub const CODES: [u8; 11] = [0x00, 0xFF, 0xC7, 0xCC, 0xC1, 0xCB, 0xC9, 0xC8, 0xC4, 0xC0, 0xD5];
+/// The codes of store files; their rows are printed as a table of their own, which stays narrow so.
+pub const FILE_CODES: [u8; 14] = [
+    0x00, 0xFF, 0xC9, 0xE0, 0xE1, 0xE2, 0xE3, 0xE4, 0xE5, 0xE6, 0xE7, 0xE8, 0xE9, 0xEA,
+];
+/// The faults of a file in the order in which the later ones are looked for.
+pub const FAULTS: [u8; 10] = [0xE1, 0xE2, 0xE3, 0xE4, 0xE5, 0xE6, 0xE7, 0xE8, 0xE9, 0xEA];
 
 /// Which codes each command may give, by the rules. "(frame)" are messages that reach no subcommand up to 10: too
 /// short or too long (C7), another OEM number (CC), a subcommand over 10 (C1).
-pub const ALLOWED: [&[u8]; 13] = [
+pub const ALLOWED: [&[u8]; 15] = [
     &[0x00, 0xFF, 0xC7],
     &[0x00, 0xFF, 0xC7, 0xCC, 0xC9],
     &[0x00, 0xFF, 0xC7, 0xCC, 0xCB, 0xC0, 0xC4],
@@ -38,6 +48,10 @@ pub const ALLOWED: [&[u8]; 13] = [
     &[0xFF, 0xC7, 0xCC, 0xCB, 0xD5],
     &[0xFF, 0xC7, 0xCC, 0xC1],
     &[0x00, 0xFF, 0xCC, 0xD5],
+    &[0x00, 0xFF, 0xC9],
+    &[
+        0x00, 0xFF, 0xE0, 0xE1, 0xE2, 0xE3, 0xE4, 0xE5, 0xE6, 0xE7, 0xE8, 0xE9, 0xEA,
+    ],
 ];
 
 /// Situations that the tests must reach, so that they are known to go deep.
@@ -121,7 +135,39 @@ pub const SITUATIONS: &[&str] = &[
     "Outcome: verify failed",
     "Outcome: update good",
     "Outcome: update failed",
+    "Save part: the base",
+    "Save part: an empty scan",
+    "Save part: the longest",
+    "Save part: the sixteenth scan",
+    "Save part: of a slot with a session",
+    "Save part: in a store with a new name open",
+    "Load: no blob",
+    "Load: 16 blobs",
+    "Load: an empty scan",
+    "Load: a scan of 4096 bytes",
+    "Load: a name of 25 letters",
+    "Load: a slot becomes unused",
+    "Load: a slot is used again for a shorter scan",
+    "Load: into a full store",
+    "Load: beside a flash session",
+    "Load: beside a running job",
+    "Load: refused for a session that only reads",
+    "Load: refused for a session that writes",
 ];
+
+/// One situation for every two faults in one file.
+pub fn beside(one: u8, other: u8) -> String {
+    format!("{:02X} beside {:02X}", one.min(other), one.max(other))
+}
+
+/// All situations to be reached.
+fn situations() -> Vec<String> {
+    let mut situations: Vec<String> = SITUATIONS.iter().map(|name| name.to_string()).collect();
+    for (place, one) in FAULTS.iter().enumerate() {
+        situations.extend(FAULTS[place + 1..].iter().map(|other| beside(*one, *other)));
+    }
+    situations
+}
 
 #[derive(Clone)]
 pub struct Tally {
@@ -168,18 +214,27 @@ impl Tally {
         self.states += other.states;
     }
 
-    /// The table of commands and codes.
+    /// The tables of commands and codes, and the situations.
     pub fn print(&self) {
+        self.print_table(0..SAVE_PART, &CODES);
+        self.print_table(SAVE_PART..COMMANDS.len(), &FILE_CODES);
+        println!("situations:");
+        for name in situations() {
+            println!("  {:>9}  {name}", self.situations.get(&name).unwrap_or(&0));
+        }
+    }
+
+    fn print_table(&self, commands: std::ops::Range<usize>, codes: &[u8]) {
         print!("{:<12}", "");
-        for code in CODES {
+        for code in codes {
             print!("{code:>9}", code = format!("{code:02X}"));
         }
         println!();
-        for (command, name) in COMMANDS.iter().enumerate() {
-            print!("{name:<12}");
-            for code in CODES {
-                let number = self.codes[command][usize::from(code)];
-                let allowed = ALLOWED[command].contains(&code);
+        for command in commands {
+            print!("{:<12}", COMMANDS[command]);
+            for code in codes {
+                let number = self.codes[command][usize::from(*code)];
+                let allowed = ALLOWED[command].contains(code);
                 let text = if number == 0 && !allowed {
                     ".".to_string()
                 } else {
@@ -188,10 +243,6 @@ impl Tally {
                 print!("{text:>9}");
             }
             println!();
-        }
-        println!("situations:");
-        for name in SITUATIONS {
-            println!("  {:>9}  {name}", self.situations.get(*name).unwrap_or(&0));
         }
     }
 
@@ -212,7 +263,8 @@ impl Tally {
                 }
             }
         }
-        let missing = SITUATIONS.iter().filter(|name| !self.situations.contains_key(**name));
+        let missing = situations().into_iter();
+        let missing = missing.filter(|name| !self.situations.contains_key(name));
         gaps.extend(missing.map(|name| format!("situation not reached: {name}")));
         gaps
     }

@@ -1,7 +1,7 @@
 //! Unsound states: each clause broken alone, random damage, and lent lengths.
 
 use super::breakers::BREAKERS;
-use super::generator::{Generator, Profile, KINDS};
+use super::generator::{Generator, Profile, KINDS, LOAD, OUTCOME, SAVE_PART};
 use super::pair::Pair;
 use super::tally::Tally;
 use super::Share;
@@ -23,9 +23,9 @@ pub fn broken(share: Share) -> Tally {
             }
         };
         pair.start(&state, &format!("broken: {name}, seed {seed:#X}"));
-        // The same kinds of request come to each breaker in turn, and a job outcome always.
+        // The same kinds of message come to each breaker in turn, and the other calls always.
         let turn = (place / BREAKERS.len() as u64 % 11) as u8;
-        for kind in [turn, (turn + 5) % 11, KINDS - 1] {
+        for kind in [turn, (turn + 5) % 11, OUTCOME, SAVE_PART, LOAD] {
             let step = generator.of_kind(kind, &state);
             let code = pair.step(&step);
             assert_eq!(code, 0xFF, "broken: {name}, seed {seed:#X}");
@@ -122,10 +122,10 @@ fn one_length(pair: &mut Pair, generator: &mut Generator, state: &OwnedMemory, s
         // The generator looks at the whole state; the request goes to the other.
         let step = generator.of_kind(kind, state);
         let code = pair.step(&step);
-        // A job outcome has no answer buffer.
-        let outcome_alone = slice == 7 && kind == KINDS - 1;
+        // Only messages have an answer buffer.
+        let no_message = slice == 7 && kind >= OUTCOME;
         assert!(
-            exact || outcome_alone || code == 0xFF,
+            exact || no_message || code == 0xFF,
             "length of slice {slice}, way {how}, seed {seed:#X}"
         );
     }
