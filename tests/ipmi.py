@@ -199,8 +199,9 @@ def main():
         hashes(folder)
         absent(folder)
         no_network(folder)
-        if " is absent " in peers:
-            print(f"ipmi: not run: {next(line for line in peers.splitlines() if ' is absent ' in line).split()[1]} is absent")
+        missing = [line.split()[1] for line in peers.splitlines() if " is absent " in line and "protobuf" not in line]  # that is for tests/store_file.py
+        if missing:
+            print(f"ipmi: not run: {missing[0]} is absent")
             return
         faults(folder)
         interrupted(folder)

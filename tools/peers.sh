@@ -11,7 +11,9 @@ peers='ipmi_sim openipmi
 /usr/include/OpenIPMI/serv.h libopenipmi-dev
 ipmitool ipmitool
 ipmi-raw freeipmi-tools
-pkg-config pkg-config'
+pkg-config pkg-config
+protoc protobuf-compiler
+/usr/lib/python3/dist-packages/google/protobuf/__init__.py python3-protobuf'
 
 case "$#${1:-}" in
 0 | 1--show) ;;
