@@ -10,21 +10,13 @@
 
 #include "kramsnep.h"
 
-uint32_t kramsnep_save_part(uint32_t part, const uint32_t *control, size_t control_len, const uint32_t *table, size_t table_len,
-                            const uint8_t *names, size_t names_len, const uint8_t *committed, size_t committed_len,
-                            const uint8_t *staged, size_t staged_len, const uint8_t *image, size_t image_len,
-                            const uint8_t *hash, size_t hash_len, uint8_t *buffer, size_t buffer_len);
-uint32_t kramsnep_load(const uint8_t *file, size_t file_len, uint32_t *control, size_t control_len, const uint32_t *table, size_t table_len,
-                       uint8_t *names, size_t names_len, uint8_t *committed, size_t committed_len, uint8_t *staged, size_t staged_len,
-                       const uint8_t *image, size_t image_len, const uint8_t *hash, size_t hash_len);
-
-enum { PART_SIZE = 4200, NO_SUCH_PART = 1000, REPEATED_NAME = 0xE8, MANY_BLOBS = 0xEA, FILE_MOST = 1 << 20, REPEATS = 2001 };
+enum { NO_SUCH_PART = 1000, FILE_MOST = 1 << 20, REPEATS = 2001 };
 
 static const char letters[] = "abcdefghijklmnopqrstuvwxyzABCDEFGHIJKLMNOPQRSTUVWXYZ0123456789";
 enum { LETTERS = sizeof letters - 1, TRIPLES = LETTERS * LETTERS * LETTERS };
 
 static struct kramsnep_memory memory;
-static uint8_t buffer[PART_SIZE], copy[FILE_MOST];
+static uint8_t buffer[KRAMSNEP_PART_SIZE], copy[FILE_MOST];
 static volatile uint32_t sink;
 
 /* Store files, as many as are compared, and the one that is worked on. */
@@ -39,20 +31,9 @@ static void fail(const char *what)
     exit(1);
 }
 
-static uint32_t save_part(uint32_t part)
-{
-    struct kramsnep_memory *m = &memory;
-    return kramsnep_save_part(part, m->control, KRAMSNEP_CONTROL_WORDS, m->table, KRAMSNEP_TABLE_WORDS, m->names, KRAMSNEP_NAMES_SIZE,
-                              m->committed, KRAMSNEP_COMMITTED_SIZE, m->staged, KRAMSNEP_STAGED_SIZE, m->image, KRAMSNEP_IMAGE_SIZE,
-                              m->hash, KRAMSNEP_HASH_SIZE, buffer, PART_SIZE);
-}
+static uint32_t save_part(uint32_t part) { return kramsnep_save_part_in(&memory, part, buffer); }
 
-static uint32_t load(void)
-{
-    struct kramsnep_memory *m = &memory;
-    return kramsnep_load(file->bytes, file->length, m->control, KRAMSNEP_CONTROL_WORDS, m->table, KRAMSNEP_TABLE_WORDS, m->names, KRAMSNEP_NAMES_SIZE,
-                         m->committed, KRAMSNEP_COMMITTED_SIZE, m->staged, KRAMSNEP_STAGED_SIZE, m->image, KRAMSNEP_IMAGE_SIZE, m->hash, KRAMSNEP_HASH_SIZE);
-}
+static uint32_t load(void) { return kramsnep_load_in(&memory, file->bytes, file->length); }
 
 /* All parts; what is done with them is the caller's. */
 static uint32_t save(void)
@@ -311,9 +292,9 @@ static void refused(const char *what, void (*make)(size_t size), size_t largest,
 
 static void hostile_files(void)
 {
-    refused("tiny blobs, all names different (EA)", different_names, FILE_MOST, MANY_BLOBS, 21);
-    refused("tiny blobs, the first name again at the end (E8)", first_name_again, FILE_MOST, REPEATED_NAME, 21);
-    refused("names of one hash, all different (EA)", names_of_one_hash, FILE_MOST / 8, MANY_BLOBS, 3);
+    refused("tiny blobs, all names different (EA)", different_names, FILE_MOST, KRAMSNEP_MANY_BLOBS, 21);
+    refused("tiny blobs, the first name again at the end (E8)", first_name_again, FILE_MOST, KRAMSNEP_REPEATED_NAME, 21);
+    refused("names of one hash, all different (EA)", names_of_one_hash, FILE_MOST / 8, KRAMSNEP_MANY_BLOBS, 3);
 }
 
 int main(int argc, char **argv)
