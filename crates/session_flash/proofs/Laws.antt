@@ -53,7 +53,8 @@ module _ (t offset : ℕ) (ws : List ℕ) (x : Row) (b : FlashBody) where
   unfolding onFlash writeFlash
   write-image k p = rw p
 
-  pub write-hash : (k : FlashKind) → k ≡ Hash → onFlash k t (write offset ws) x b ≡ placed hashSize (b .hashLen) offset (length ws) x b (done, (stamped t x, withHash (sets (b .hash) offset ws) (max (b .hashLen) (offset + length ws)) b))
+  pub write-hash : (k : FlashKind) → k ≡ Hash → onFlash k t (write offset ws) x b
+      ≡ placed hashSize (b .hashLen) offset (length ws) x b (done, (stamped t x, withHash (sets (b .hash) offset ws) (max (b .hashLen) (offset + length ws)) b))
   unfolding onFlash writeFlash
   write-hash k p = rw p
 
@@ -158,7 +159,8 @@ module _ (s : State) (r : ℕ) (e : Entry) (words : block rowWords r .get (s .se
     pub write-is : (capacity : ℕ) (l : List ℕ) (len : ℕ) (put : List ℕ → ℕ → FlashBody) (w : Written) (said : Said) (table l′ : List ℕ) (len′ : ℕ) → put l len ≡ s .flashGroup
         → onFlash (kindOf (e .blob)) t (write offset ws) (rowRead r e s) (s .flashGroup) ≡ placed capacity len offset (length ws) (rowRead r e s) (s .flashGroup)
         (done, (stamped t (rowRead r e s), put (sets l offset ws) (max len (offset + length ws))))
-        → length l ≡ capacity → w ≡ written (length l) len offset (length ws) → said ≡ saidBy w → table ≡ tableBy w r (wordsOf (lifted e t)) (s .sessions .table) → l′ ≡ regionBy w offset ws l → len′ ≡ lengthBy w len
+        → length l ≡ capacity → w ≡ written (length l) len offset (length ws) → said ≡ saidBy w → table ≡ tableBy w r (wordsOf (lifted e t)) (s .sessions .table)
+        → l′ ≡ regionBy w offset ws l → len′ ≡ lengthBy w len
         → (replyOf said answer, after table (put l′ len′)) ≡ onRow r t (write offset ws) s
     write-is capacity l len put w said table l′ len′ same h size pw ps pt pl pn =
         (λ i. (replyOf (ps i) answer, after (pt i) (put (pl i) (pn i))))
@@ -192,7 +194,8 @@ module _ (s : State) (r : ℕ) (e : Entry) (words : block rowWords r .get (s .se
         → (done, after table (s .flashGroup)) ≡ onRow r t (commit len rest) s
     update-is table p q u = part-does (commit len rest) done (lifted (started e) t) _ (s .flashGroup) table (commit-update t len rest e (bit r (s .sessions .rows)) (s .flashGroup) (kindOf (e .blob)) p q) u refl
 
-    pub cleanup-is : (table : List ℕ) (b : FlashBody) → commitFits len rest ≡ true → kindOf (e .blob) ≡ Cleanup → table ≡ block rowWords r .put (wordsOf (lifted (statusSet e succeeded) t)) (s .sessions .table) → b ≡ emptyFlash
+    pub cleanup-is : (table : List ℕ) (b : FlashBody) → commitFits len rest ≡ true → kindOf (e .blob) ≡ Cleanup
+        → table ≡ block rowWords r .put (wordsOf (lifted (statusSet e succeeded) t)) (s .sessions .table) → b ≡ emptyFlash
         → (done, after table b) ≡ onRow r t (commit len rest) s
     cleanup-is table b p q u1 u2 = part-does (commit len rest) done (lifted (statusSet e succeeded) t) _ b table (commit-cleanup t len rest e (bit r (s .sessions .rows)) (s .flashGroup) (kindOf (e .blob)) p q) u1 (sym u2)
 

@@ -11,10 +11,11 @@ use Rattle.store_file.specs.Messages.{Scan}
 use Rattle.store_file.specs.Loaded.{every}
 use Rattle.store_file.specs.Scans.{scansFrom, scanBetween}
 
--- a blob has a store name; a blob fits a slot
+-- a blob has a store name (rule 24.5)
 abbrev pub namedRight : Scan → Bool
 namedRight x = storeName (x .name)
 
+-- a blob fits a slot (rule 24.5)
 abbrev pub sizedRight : Scan → Bool
 sizedRight x = leb (length (x .bytes)) slotSize
 

@@ -6,7 +6,7 @@ ghost use Rattle.laws.specs.Bytes.{same};
 ghost use Rattle.protocol.specs.Names.{base};
 ghost use Rattle.wire.specs.Fields.{storeKeys};
 ghost use Rattle.wire.specs.Walk.{walk, last};
-ghost use Rattle.store_file.specs.Messages.{storeIn, reading};
+ghost use Rattle.store_file.specs.Messages.{baseField, storeIn, reading};
 ghost use Rattle.store_file.specs.Loaded.{reason};
 ghost use Rattle.store_check.specs.Tests.{BlobTested, AllTested};
 use protocol::Code;
@@ -124,7 +124,7 @@ fn test_all(file: &[u8]) -> Tests
 
 // The base is `/scan/`.
 fn base_right(file: &[u8]) -> bool
-    ensures { λ r. ⌜ r ≡ same (last (now (file .entry)) 1 (walk storeKeys (now (file .entry)) 0 (length (now (file .entry))) .items)) base ⌝ }
+    ensures { λ r. ⌜ r ≡ same (last (now (file .entry)) baseField (walk storeKeys (now (file .entry)) 0 (length (now (file .entry))) .items)) base ⌝ }
 {
     let field = last_field(file, 0, file.len(), STORE_BASE);
     let a = field.start;

@@ -1,5 +1,6 @@
 pub mod Messages
 pub mod Saved
+pub mod Sizes
 pub mod Loaded
 pub mod Storable
 pub mod Scans

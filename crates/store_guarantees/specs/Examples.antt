@@ -15,6 +15,7 @@ unfolding writtenAll contents written headOf shortestIn base
 wrote-empty = refl
 
 -- max_size skipped, a base twice (the last counts), a blob without data
-pub read-file : reading (0x18 ∷ 0x07 ∷ 0x0A ∷ 0x00 ∷ 0x12 ∷ 0x03 ∷ 0x0A ∷ 0x01 ∷ 0x61 ∷ 0x0A ∷ 0x01 ∷ 0x62 ∷ []) ≡ record { fault = 0; base = 0x62 ∷ []; scans = (record { name = 0x61 ∷ []; bytes = [] }) ∷ [] }
+pub read-file : reading (0x18 ∷ 0x07 ∷ 0x0A ∷ 0x00 ∷ 0x12 ∷ 0x03 ∷ 0x0A ∷ 0x01 ∷ 0x61 ∷ 0x0A ∷ 0x01 ∷ 0x62 ∷ [])
+    ≡ record { fault = 0; base = 0x62 ∷ []; scans = (record { name = 0x61 ∷ []; bytes = [] }) ∷ [] }
 unfolding reading walkIn onward fieldAt known keyed valueAt numbered measured fixed numberIn lastFrom scansAt
 read-file = refl

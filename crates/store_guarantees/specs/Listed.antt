@@ -1,7 +1,7 @@
 -- The names of the saved list are the committed names that Enumerate lists. Assumes nothing.
 use mathlib.Core.Path.{_≡_, refl, sym, _∙_, ap}
 use mathlib.Core.Bool.{Bool, true, false, cond}
-use mathlib.Core.List.{List, [], _∷_, _++_, map}
+use mathlib.Core.List.{List, [], _∷_, _++_, map, map-append}
 use Prim.Native.Nat.{ℕ, zero, suc}
 use lib.Dec.{eqb}
 use Rattle.laws.specs.Bits.{bit}
@@ -13,10 +13,6 @@ use Rattle.rules.specs.Listing.{only, committedNames}
 use Rattle.store_file.specs.Messages.{Scan}
 use Rattle.store_file.specs.Saved.{placesBelow, committedSlots, scanOf, scansOf}
 
-names-append : (f : ℕ → List ℕ) (xs ys : List ℕ) → map f (xs ++ ys) ≡ map f xs ++ map f ys
-names-append f [] ys = refl
-names-append f (x ∷ xs) ys = ap (λ (l : List (List ℕ)). f x ∷ l) (names-append f xs ys)
-
 names-below : (s : State) (n : ℕ) → committedNames n s ≡ map (λ (k : ℕ). text (slotAt k s .name)) (placesBelow (s .store .marks) n)
 unfolding committedNames placesBelow
 names-below s zero = refl
@@ -27,8 +23,8 @@ names-below s (suc n) = go (eqb (bit n (s .store .marks)) 1) (names-below s n)
 
     go : (b : Bool) → committedNames n s ≡ map g (placesBelow (s .store .marks) n)
         → committedNames n s ++ only b (g n) ≡ map g (placesBelow (s .store .marks) n ++ cond b (n ∷ []) [])
-    go true ih = ap (λ (l : List (List ℕ)). l ++ (g n ∷ [])) ih ∙ sym (names-append g (placesBelow (s .store .marks) n) (n ∷ []))
-    go false ih = ap (λ (l : List (List ℕ)). l ++ []) ih ∙ sym (names-append g (placesBelow (s .store .marks) n) [])
+    go true ih = ap (λ (l : List (List ℕ)). l ++ (g n ∷ [])) ih ∙ sym (map-append g (placesBelow (s .store .marks) n) (n ∷ []))
+    go false ih = ap (λ (l : List (List ℕ)). l ++ []) ih ∙ sym (map-append g (placesBelow (s .store .marks) n) [])
 
 twice : (s : State) (ks : List ℕ) → map (λ (x : Scan). x .name) (map (λ (k : ℕ). scanOf (slotAt k s)) ks) ≡ map (λ (k : ℕ). text (slotAt k s .name)) ks
 twice s [] = refl

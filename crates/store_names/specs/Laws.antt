@@ -193,7 +193,8 @@ module _ (all rest : List Scan) (m c : ℕ) (filter : List ℕ) (p : Passed all 
       done = p .done ++ (x ∷ []);
       splits = p .splits ∙ ap (λ (l : List Scan). p .done ++ l) e ∙ sym (append-assoc (p .done) (x ∷ []) rest′);
       apart = apart-more q;
-      known = all-more _ (p .done) x (all-weaker _ _ (p .done) (λ (y : Scan) (h : inClass m c y ≡ true → seenIn filter (nameHash (y .name)) ≡ true) (i : inClass m c y ≡ true). j .kept (nameHash (y .name)) (h i)) (p .known)) (j .marked);
+      known = all-more _ (p .done) x (all-weaker _ _ (p .done) (λ (y : Scan) (h : inClass m c y ≡ true → seenIn filter (nameHash (y .name)) ≡ true) (i : inClass m c y ≡ true). j .kept (nameHash (y .name)) (h i))
+          (p .known)) (j .marked);
     }
 
 -- ---- all classes

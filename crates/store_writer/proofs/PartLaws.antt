@@ -25,45 +25,40 @@ use Rattle.lookup.specs.Search.{Nth}
 use Rattle.wire.specs.Written.{Content, written, writtenAll}
 use Rattle.store_file.specs.Messages.{Scan, baseField, blobField}
 use Rattle.store_file.specs.Saved.{committedSlots, scanOf, scansOf, blobContents, blobContent, contents, Saved, partOf, Call, laidOut, savedInto, bufferSize}
+use Rattle.store_file.specs.Sizes.{buffer-size}
 use Rattle.store_writer.specs.Parts.{scanIn, Lent}
 use Rattle.store_writer.proofs.Laws.{size-most, blob-size, field-length, places-count, place-at}
 
 -- ---- the lent parts
-pub scan-lent : (names committed : List ℕ) (k len z : ℕ) → len ≤ 4096 → z ≡ firstZero (take (k * 32 + 32 - k * 32) (drop (k * 32) names)) → z ≤ 32
+pub scan-lent : (names committed : List ℕ) (k len z : ℕ) → len ≤ slotSize → z ≡ firstZero (take (k * 32 + 32 - k * 32) (drop (k * 32) names)) → z ≤ 32
     → _≡_ {A = Scan} (record { name = take (k * 32 + z - k * 32) (drop (k * 32) names); bytes = take (k * 4096 + len - k * 4096) (drop (k * 4096) committed) })
     (scanIn names committed k len)
 scan-lent names committed k len z h e l =
     let p = text-lent nameSize 32 name-size k names z (e ∙ ap firstZero (block-lent nameSize 32 name-size k names)) (omega (arith, name-size)) in
-    let q = front-lent slotSize 4096 slot-size k committed len (omega (arith, slot-size)) in
+    let q = front-lent slotSize 4096 slot-size k committed len h in
     λ i. record { name = p i; bytes = q i }
 
 -- ---- a part is short
-take-most : (n : ℕ) (l : List ℕ) → length (take n l) ≤ n
-take-most n l = rw (length-take n l) (omega arith)
-
-take-short : (n : ℕ) (l : List ℕ) → length (take n l) ≤ length l
-take-short n l = rw (length-take n l) (omega arith)
-
 pub zero-short : (k z : ℕ) (l : List ℕ) → z ≤ length (take (k * 32 + 32 - k * 32) l) → z ≤ 32
-zero-short k z l h = omega (arith, take-most (k * 32 + 32 - k * 32) l)
+zero-short k z l h = omega (arith, length-take (k * 32 + 32 - k * 32) l)
 
-scan-fits : (x : Scan) → length (x .name) ≤ 32 → length (x .bytes) ≤ 4096 → length (written (blobContent x)) ≤ 4200
+scan-fits : (x : Scan) → length (x .name) ≤ nameSize → length (x .bytes) ≤ slotSize → length (written (blobContent x)) ≤ bufferSize
 scan-fits x n d =
-    let name = size-most (length (x .name)) (omega arith) in
-    let bytes = size-most (length (x .bytes)) (omega arith) in
+    let name = size-most (length (x .name)) (omega (arith, name-size)) in
+    let bytes = size-most (length (x .bytes)) (omega (arith, slot-size)) in
     let inner : List ℕ = writtenAll (blobContents x) in
     let size = blob-size x in
-    omega (arith, field-length blobField inner (omega arith), size-most (length inner) (omega arith))
+    omega (arith, buffer-size, name-size, slot-size, field-length blobField inner (omega arith), size-most (length inner) (omega (arith, name-size, slot-size)))
 
-pub blob-fits : (names committed : List ℕ) (k len : ℕ) → len ≤ 4096 → length (written (blobContent (scanIn names committed k len))) ≤ 4200
+pub blob-fits : (names committed : List ℕ) (k len : ℕ) → len ≤ slotSize → length (written (blobContent (scanIn names committed k len))) ≤ bufferSize
 blob-fits names committed k len h =
     let region : List ℕ = block nameSize k .get names in
-    scan-fits (scanIn names committed k len) (omega (arith, take-short (firstZero region) region, take-most nameSize (drop (k * nameSize) names), name-size))
-    (omega (arith, take-most len (block slotSize k .get committed)))
+    scan-fits (scanIn names committed k len) (omega (arith, length-take (firstZero region) region, length-take nameSize (drop (k * nameSize) names)))
+    (omega (arith, length-take len (block slotSize k .get committed)))
 
-pub base-fits : length (written (baseField, base)) ≤ 4200
+pub base-fits : length (written (baseField, base)) ≤ bufferSize
 unfolding base
-base-fits = omega (arith, field-length baseField base (omega arith), size-most (length base) (omega arith))
+base-fits = omega (arith, buffer-size, field-length baseField base (omega arith), size-most (length base) (omega arith))
 
 -- stored at the front, the rest kept
 laid-sets : (w b : List ℕ) → length w ≤ length b → sets b 0 w ≡ laid w b
@@ -128,7 +123,7 @@ unused-len b q =
     let y = and-true (eqb (b .mark) 0) lens (x .0) in
     eqb-true (b .committedLen) 0 (and-true (eqb (b .committedLen) 0) (eqb (b .stagedLen) 0) (y .1) .0)
 
-lens-fit : (s : State) → isSound s ≡ true → (k : ℕ) → k < 16 → slotAt k s .committedLen ≤ slotSize
+lens-fit : (s : State) → isSound s ≡ true → (k : ℕ) → k < slotCount → slotAt k s .committedLen ≤ slotSize
 unfolding slotOk
 lens-fit s h k l = go (eqb (slotAt k s .held) 1) (all-at (slotOk s) slotCount (parts s h .slots-ok) k l)
   where
@@ -136,31 +131,31 @@ lens-fit s h k l = go (eqb (slotAt k s .held) 1) (all-at (slotOk s) slotCount (p
     go true q = used-len (slotAt k s) (hasWriter s k) q
     go false q = omega (arith, unused-len (slotAt k s) q)
 
-pub lent-sound : (s : State) (b : List ℕ) → isSound s ≡ true → length b ≡ 4200
+pub lent-sound : (s : State) (b : List ℕ) → isSound s ≡ true → length b ≡ bufferSize
     → Lent (s .store .marks) (s .store .names) (s .store .committed) (s .store .committedLens) b
 lent-sound s b h e =
     let g = sound-of-test s h .shape in
     record {
       marks-small = g .marks-small;
-      names-size = g .names-size ∙ ap (λ (j : ℕ). 16 * j) name-size;
-      committed-size = g .committed-size ∙ ap (λ (j : ℕ). 16 * j) slot-size;
-      lens-fit = λ (k : ℕ) (l : k < 16). omega (arith, lens-fit s h k l, slot-size);
+      names-size = g .names-size;
+      committed-size = g .committed-size;
+      lens-fit = lens-fit s h;
       buffer-size = e;
     }
 
 -- ---- each way through a call
 module _ (p : ℕ) (s : State) (b : List ℕ) where
-  pub call-size : (length b ≡ 4200 → ⊥) → _≡_ {A = Call} (record { code = notSound; len = 0; buffer = b }) (savedInto p s b)
-  unfolding savedInto bufferSize
-  call-size n = rw (ne-eqb (length b) 4200 n)
+  pub call-size : (length b ≡ bufferSize → ⊥) → _≡_ {A = Call} (record { code = notSound; len = 0; buffer = b }) (savedInto p s b)
+  unfolding savedInto
+  call-size n = rw (ne-eqb (length b) bufferSize n)
 
-  pub call-unsound : length b ≡ 4200 → isSound s ≡ false → _≡_ {A = Call} (record { code = notSound; len = 0; buffer = b }) (savedInto p s b)
-  unfolding savedInto bufferSize
-  call-unsound e h = rw (eq-eqb (length b) 4200 e, h)
+  pub call-unsound : length b ≡ bufferSize → isSound s ≡ false → _≡_ {A = Call} (record { code = notSound; len = 0; buffer = b }) (savedInto p s b)
+  unfolding savedInto
+  call-unsound e h = rw (eq-eqb (length b) bufferSize e, h)
 
-  pub call-part : length b ≡ 4200 → isSound s ≡ true → laidOut (partOf p s) b ≡ savedInto p s b
-  unfolding savedInto bufferSize
-  call-part e h = rw (eq-eqb (length b) 4200 e, h)
+  pub call-part : length b ≡ bufferSize → isSound s ≡ true → laidOut (partOf p s) b ≡ savedInto p s b
+  unfolding savedInto
+  call-part e h = rw (eq-eqb (length b) bufferSize e, h)
 
 -- a part as it stands in the buffer
 pub call-laid : (w b x : List ℕ) (r : ℕ) (v : Saved) → v ≡ record { code = success; bytes = w } → r ≡ length w → x ≡ sets b 0 w → length w ≤ length b

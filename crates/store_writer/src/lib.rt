@@ -4,10 +4,12 @@ ghost use mathlib.Core.List.{List};
 ghost use Prim.Native.Nat.{ℕ, _+_, _<_, _≤_};
 ghost use lib.ListN.{length};
 ghost use lib.Seq.{sets};
+ghost use Rattle.protocol.specs.Numbers.{slotCount, nameSize, slotSize};
 ghost use Rattle.wire.specs.Base128.{shortest};
 ghost use Rattle.wire.specs.Written.{headOf, written};
 ghost use Rattle.state.specs.State.{stateOf};
-ghost use Rattle.store_file.specs.Saved.{blobContent, partOf, laidOut, savedInto};
+ghost use Rattle.state.specs.Lent.{NamesLent, RegionsLent};
+ghost use Rattle.store_file.specs.Saved.{blobContent, partOf, bufferSize, laidOut, savedInto};
 ghost use Rattle.store_writer.specs.Parts.{callOf, scanIn, Lent};
 use lookup::nth_set;
 use memory_copy::copy_at;
@@ -68,7 +70,7 @@ fn put_field(dst: &mut [u8], at: usize, number: u64, src: &[u8]) -> usize
 
 // A blob's part at the front of a buffer; its length.
 fn put_blob(dst: &mut [u8], name: &[u8], scan: &[u8]) -> usize
-    requires { ⌜ (length (now name) ≤ 32) × ((length (now scan) ≤ 4096) × (4200 ≤ length (now dst))) ⌝ }
+    requires { ⌜ (length (now name) ≤ nameSize) × ((length (now scan) ≤ slotSize) × (bufferSize ≤ length (now dst))) ⌝ }
     ensures { λ r. ⌜ (r ≡ length (written (blobContent (record { name = now (name .entry); bytes = now (scan .entry) })))) × (now (dst .exit) ≡ sets (now (dst .entry)) 0 (written (blobContent (record { name = now (name .entry); bytes = now (scan .entry) })))) ⌝ }
 {
     let first = head_size(name.len()) + name.len();
@@ -80,7 +82,7 @@ fn put_blob(dst: &mut [u8], name: &[u8], scan: &[u8]) -> usize
 
 // Slot k's part at the front of a buffer; its length.
 fn put_slot(dst: &mut [u8], k: usize, len: usize, names: &[u8], committed: &[u8]) -> usize
-    requires { ⌜ ((k < 16) × (len ≤ 4096)) × ((length (now names) ≡ 512) × ((length (now committed) ≡ 65536) × (length (now dst) ≡ 4200))) ⌝ }
+    requires { ⌜ ((k < slotCount) × (len ≤ slotSize)) × (NamesLent (now names) × (RegionsLent (now committed) × (length (now dst) ≡ bufferSize))) ⌝ }
     ensures { λ r. ⌜ (r ≡ length (written (blobContent (scanIn (now (names .entry)) (now (committed .entry)) k len)))) × (now (dst .exit) ≡ sets (now (dst .entry)) 0 (written (blobContent (scanIn (now (names .entry)) (now (committed .entry)) k len)))) ⌝ }
 {
     let at = k * NAME_SIZE;
@@ -106,7 +108,7 @@ fn write_part(
     buffer: &mut [u8],
 ) -> Part
     requires { ⌜ Lent (control .marks) (now names) (now committed) (control .«committed_len») (now buffer) ⌝ }
-    ensures { λ r. ⌜ ((table staged image hash : List ℕ) → callOf r (now (buffer .exit)) ≡ laidOut (partOf part (stateOf control table (now (names .entry)) (now (committed .entry)) staged image hash)) (now (buffer .entry))) × (r .len ≤ 4200) ⌝ }
+    ensures { λ r. ⌜ ((table staged image hash : List ℕ) → callOf r (now (buffer .exit)) ≡ laidOut (partOf part (stateOf control table (now (names .entry)) (now (committed .entry)) staged image hash)) (now (buffer .entry))) × (r .len ≤ bufferSize) ⌝ }
 {
     if part == 0 {
         let base = protocol::BASE;
@@ -145,7 +147,7 @@ pub fn save_part(
     buffer: &mut [u8],
 ) -> Part
     ensures { λ r. ⌜ callOf r (now (buffer .exit)) ≡ savedInto part (stateOf control (now (table .entry)) (now (names .entry)) (now (committed .entry)) (now (staged .entry)) (now (image .entry)) (now (hash .entry))) (now (buffer .entry)) ⌝ }
-    ensures { λ r. ⌜ (r .len ≤ 4200) × (r .len ≤ length (now (buffer .exit))) ⌝ }
+    ensures { λ r. ⌜ (r .len ≤ bufferSize) × (r .len ≤ length (now (buffer .exit))) ⌝ }
 {
     if buffer.len() != BUFFER_SIZE {
         return Part {

@@ -3,9 +3,11 @@ use mathlib.Core.Path.{_≡_}
 use Prim.Native.Nat.{ℕ, _+_, _≤_}
 use native.Mathlib.Omega.{arith}
 use lib.ListN.{length}
+use Rattle.protocol.specs.Sizes.{name-size, slot-size}
 use Rattle.wire.specs.Written.{writtenAll}
 use Rattle.store_file.specs.Messages.{Scan}
 use Rattle.store_file.specs.Saved.{blobContents}
+use Rattle.store_file.specs.Sizes.{buffer-size}
 use Rattle.store_writer.proofs.Laws.{head-length, size-most, field-length, blob-size, blob-put}
 use borrow.Author.Needs.{needs}
 use Rattle.store_writer.proofs.put_blob.Statement.{statement}
@@ -35,44 +37,44 @@ inner-is c = omega (arith, blob-size (blob c), c .before .head-size .ensures .0,
 head-end : (c : tie.After-put-head) → c .put-head .result ≤ 3
 head-end c =
     let size = inner (c .before .before) in
-    omega (arith, head-length 2 size (omega arith), size-most size (omega arith), c .put-head .ensures .0)
+    omega (arith, head-length 2 size (omega (arith, name-size, slot-size)), size-most size (omega (arith, name-size, slot-size)), c .put-head .ensures .0)
 
 name-end : (c : tie.After-put-field)
     → let head = at-head (c .before) in c .put-field .result ≤ head .put-head .result + 3 + length (entry (head .before .before) .args .name .now)
 name-end c =
     let head = at-head (c .before) in
     let name = entry (head .before .before) .args .name .now in
-    omega (arith, field-length 1 name (omega arith), size-most (length name) (omega arith), c .put-field .ensures .0)
+    omega (arith, field-length 1 name (omega (arith, name-size, slot-size)), size-most (length name) (omega (arith, name-size, slot-size)), c .put-field .ensures .0)
 
 head-size-requires : tie.Need-head-size-requires
-head-size-requires c κs = search needs
+head-size-requires c κs = search (needs, name-size, slot-size, buffer-size)
 
 add-first : tie.Need-add-first
-add-first c = search needs
+add-first c = search (needs, name-size, slot-size, buffer-size)
 
 head-size-requires-2 : tie.Need-head-size-requires-2
-head-size-requires-2 c κs = search needs
+head-size-requires-2 c κs = search (needs, name-size, slot-size, buffer-size)
 
 add-second : tie.Need-add-second
-add-second c = search needs
+add-second c = search (needs, name-size, slot-size, buffer-size)
 
 add-put-head : tie.Need-add-put-head
-add-put-head c = search needs
+add-put-head c = search (needs, name-size, slot-size, buffer-size)
 
 put-head-requires : tie.Need-put-head-requires
-put-head-requires c κs = search needs
+put-head-requires c κs = search (needs, name-size, slot-size, buffer-size)
 
 put-field-requires : tie.Need-put-field-requires
-put-field-requires c κs = let head = at-head c in (omega arith, (omega arith, omega (arith, head-end head, head .put-head .kept .0)))
+put-field-requires c κs = let head = at-head c in (omega arith, (omega (arith, name-size, slot-size), omega (arith, head-end head, head .put-head .kept .0, name-size, slot-size, buffer-size)))
 
 put-field-requires-2 : tie.Need-put-field-requires-2
 put-field-requires-2 c κs =
     let name = at-name c in
     let head = at-head (name .before) in
-    (omega arith, (omega arith, omega (arith, head-end head, head .put-head .kept .0, name-end name, name .put-field .kept .0)))
+    (omega arith, (omega (arith, name-size, slot-size), omega (arith, head-end head, head .put-head .kept .0, name-size, slot-size, buffer-size, name-end name, name .put-field .kept .0)))
 
 same-length : tie.Need-same-length
-same-length c = search needs
+same-length c = search (needs, name-size, slot-size, buffer-size)
 
 returns : tie.Need-returns
 returns c =

@@ -4,6 +4,7 @@ use Prim.Native.Nat.{_≤_}
 use native.Mathlib.Omega.{arith}
 use lib.ListN.{length}
 use lib.Seq.{sets}
+use Rattle.protocol.specs.Sizes.{name-size, slot-size}
 use Rattle.wire.specs.Written.{written}
 use Rattle.store_file.specs.Messages.{Scan}
 use Rattle.store_file.specs.Saved.{blobContent}
@@ -32,7 +33,7 @@ part-first-zero-start : tie.Need-part-first-zero-start
 part-first-zero-start c = search needs
 
 part-first-zero-end : tie.Need-part-first-zero-end
-part-first-zero-end c = search needs
+part-first-zero-end c = search (needs, name-size)
 
 first-zero-requires : tie.Need-first-zero-requires
 first-zero-requires c κs = search needs
@@ -53,7 +54,7 @@ part-put-blob-start : tie.Need-part-put-blob-start
 part-put-blob-start c = search needs
 
 part-put-blob-end : tie.Need-part-put-blob-end
-part-put-blob-end c = search needs
+part-put-blob-end c = search (needs, name-size)
 
 sub-put-blob-2 : tie.Need-sub-put-blob-2
 sub-put-blob-2 c = search needs
@@ -62,10 +63,10 @@ part-put-blob-start-2 : tie.Need-part-put-blob-start-2
 part-put-blob-start-2 c = search needs
 
 part-put-blob-end-2 : tie.Need-part-put-blob-end-2
-part-put-blob-end-2 c = search needs
+part-put-blob-end-2 c = search (needs, slot-size)
 
 put-blob-requires : tie.Need-put-blob-requires
-put-blob-requires c κs = search needs
+put-blob-requires c κs = search (needs, name-size, slot-size)
 
 same-length : tie.Need-same-length
 same-length c = search needs

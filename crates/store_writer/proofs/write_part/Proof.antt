@@ -9,7 +9,8 @@ use Rattle.protocol.specs.Names.{base}
 use Rattle.state.specs.State.{State, stateOf}
 use Rattle.wire.specs.Written.{written}
 use Rattle.store_file.specs.Messages.{baseField}
-use Rattle.store_file.specs.Saved.{Saved, laidOut, blobContent}
+use Rattle.store_file.specs.Saved.{Saved, bufferSize, laidOut, blobContent}
+use Rattle.store_file.specs.Sizes.{buffer-size}
 use Rattle.store_writer.specs.Parts.{scanIn}
 use Rattle.store_writer.proofs.PartLaws.{blob-fits, base-fits, part-base, part-past, part-slot, call-laid}
 use borrow.Author.Needs.{needs}
@@ -43,7 +44,7 @@ slice-aggregate-put-field : tie.Need-slice-aggregate-put-field
 slice-aggregate-put-field c = search needs
 
 put-field-requires : tie.Need-put-field-requires
-put-field-requires c κs = search needs
+put-field-requires c κs = search (needs, buffer-size)
 
 same-length : tie.Need-same-length
 same-length c = search needs
@@ -54,7 +55,7 @@ returns c =
     let put = base-part c in
     let start = entry (in-then1 put .before) in
     let b = start .args .buffer .now in
-    let h : length b ≡ 4200 = start .pre .buffer-size in
+    let h : length b ≡ bufferSize = start .pre .buffer-size in
     let n : put .put-field .result ≡ length (written (baseField, base)) = put .put-field .ensures .0 ∙ zero-add _ in (
       λ table staged image hash.
           call-laid (written (baseField, base)) b (put .put-field .last .0) (put .put-field .result) _
@@ -105,7 +106,7 @@ returns-3 c =
     let a = start .args in
     let k = found .result in
     let len = getD (a .t2 .«committed_len») k 0 in
-    let h : length (a .buffer .now) ≡ 4200 = start .pre .buffer-size in
+    let h : length (a .buffer .now) ≡ bufferSize = start .pre .buffer-size in
     let f = blob-fits (a .names .now) (a .committed .now) k len (start .pre .lens-fit k (found .ensures .low)) in (
       λ table staged image hash.
           call-laid (written (blobContent (scanIn (a .names .now) (a .committed .now) k len))) (a .buffer .now) (put .put-slot .last .0) (put .put-slot .result) _
