@@ -15,13 +15,13 @@ use Rattle.protocol.specs.Names.{base, storeName}
 use Rattle.wire.specs.declared.Field.the-variants.{Fault}
 use Rattle.wire.specs.Fields.{storeKeys, fieldAt}
 use Rattle.wire.specs.Walk.{Walked, walkWith, walk, last}
-use Rattle.wire.specs.Steps.{step-end, step-fault, step-on, step-inside}
+use Rattle.wire.specs.Steps.{step-end, step-fault, step-on, step-inside, here-ahead, here-span}
 use Rattle.wire_reader.specs.Last.{LastIs}
 use Rattle.store_file.specs.Messages.{Scan, inside, storeIn, scansAt, Reading, reading}
 use Rattle.protocol.specs.Numbers.{wrongBase, badName, repeatedName, longData, manyBlobs}
 use Rattle.store_file.specs.Loaded.{every, different, reason}
 use Rattle.store_file.specs.Scans.{scansFrom, scanBetween}
-use Rattle.store_file.specs.ScanLaws.{Here, here-ahead, here-span, scans-blob, scans-other, clean-items, every-end, every-step}
+use Rattle.store_file.specs.ScanLaws.{Here, scans-blob, scans-other, clean-items, every-end, every-step}
 use Rattle.store_check.specs.Tests.{namedRight, sizedRight, BlobTested, AllTested}
 
 -- ---- the first wire fault

@@ -3,7 +3,6 @@ use mathlib.Core.Path.{_≡_, refl, sym, _∙_, ap}
 use mathlib.Core.Bool.{Bool, true, false, cond, _&&_}
 use mathlib.Core.List.{List, [], _∷_}
 use Prim.Native.Nat.{ℕ, zero, suc, _-_, _≤_, _<_}
-use native.Mathlib.Omega.{arith}
 use lib.Dec.{eqb, ltb}
 use borrow.Author.Tests.{eq-eqb, ne-eqb, eqb-false}
 use lib.ListN.{length}
@@ -11,7 +10,8 @@ use Rattle.wire.specs.declared.Field.{Field}
 use Rattle.wire.specs.declared.Field.the-variants.{Whole, Fault}
 use Rattle.wire.specs.Fields.{storeKeys, fieldAt}
 use Rattle.wire.specs.Walk.{Item, Walked, stopped, before, onward, walkIn, walk}
-use Rattle.wire.specs.Steps.{field-place, step-end, step-fault, step-on}
+use Rattle.wire.specs.Steps.{step-end, step-fault, step-on}
+use Rattle.wire.specs.Steps as steps
 use Rattle.store_file.specs.Messages.{Scan, blobField, scansAt, inside, storeIn}
 use Rattle.store_file.specs.Loaded.{every}
 use Rattle.store_file.specs.Scans.{scansFrom, scanBetween}
@@ -44,26 +44,11 @@ clean-walk look (suc m) s at end h = go (ltb at end) (fieldAt storeKeys s at end
 pub clean-items : (f : List ℕ) → storeIn f .fault ≡ 0 → storeIn f .items ≡ walk storeKeys f 0 (length f) .items
 clean-items f h = ap (λ (w : Walked). w .items) (clean-walk (inside f) (length f - 0) f 0 (length f) h)
 
--- a whole field stands at a place of the file: its number, its type, where its value starts and where the next field starts
-pub record Here (f : List ℕ) (at n k start next : ℕ) : Type 0 where
-  pub inside : at < length f
-  pub field : fieldAt storeKeys f at (length f) ≡ Whole n k start next
+-- a whole field stands at a place of the file
+abbrev pub Here : List ℕ → (at n k start next : ℕ) → Type 0
+Here f at n k start next = steps.Here storeKeys f at (length f) n k start next
 
 module _ {f : List ℕ} {at n k start next : ℕ} (h : Here f at n k start next) where
-  -- the field's places
-  pub here-ahead : at < start
-  here-ahead = field-place storeKeys f at (length f) n k start next (h .field) .ahead
-
-  pub here-span : start ≤ next
-  here-span = field-place storeKeys f at (length f) n k start next (h .field) .span
-
-  pub here-within : next ≤ length f
-  here-within = field-place storeKeys f at (length f) n k start next (h .field) .within
-
-  -- fewer bytes are left behind it
-  pub here-less : length f - next < length f - at
-  here-less = omega (arith, h .inside, here-ahead, here-span, here-within)
-
   scans-step : scansFrom f at ≡ cond (eqb n blobField) (scanBetween f start next ∷ scansFrom f next) (scansFrom f next)
   unfolding scansAt
   scans-step = ap (λ (w : Walked). scansAt f (w .items)) (step-on storeKeys (λ (i : Item). 0) f at (length f) n k start next (h .inside) (h .field) refl)

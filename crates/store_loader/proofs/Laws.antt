@@ -24,7 +24,8 @@ use Rattle.store_file.specs.Messages.{Scan, storeIn, scansAt, reading}
 use Rattle.store_file.specs.Loaded.{every, storeOpen, reason, slotWith, filledFrom, stored, refused, loaded}
 use Rattle.store_file.specs.Storable.{Storable, storable}
 use Rattle.store_file.specs.Scans.{scansFrom, scanBetween}
-use Rattle.store_file.specs.ScanLaws.{Here, here-within, scans-blob, scans-other, clean-items}
+use Rattle.wire.specs.Steps.{here-within}
+use Rattle.store_file.specs.ScanLaws.{Here, scans-blob, scans-other, clean-items}
 use Rattle.store_loader.specs.Filling.{Fitting, filling}
 
 -- ---- one blob

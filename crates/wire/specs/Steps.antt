@@ -81,6 +81,26 @@ module _ (rule : KeyRule) where
   unfolding fieldAt Behind
   field-place s at end n k start next e = keyed-behind at end s (numberAt s at end) refl n k start next e
 
+-- a whole field stands at a place of a message: its number, its type, where its value starts and where the next field starts
+pub record Here (rule : KeyRule) (s : List ℕ) (at end n k start next : ℕ) : Type 0 where
+  pub inside : at < end
+  pub field : fieldAt rule s at end ≡ Whole n k start next
+
+module _ {rule : KeyRule} {s : List ℕ} {at end n k start next : ℕ} (x : Here rule s at end n k start next) where
+  -- its places
+  pub here-ahead : at < start
+  here-ahead = field-place rule s at end n k start next (x .field) .ahead
+
+  pub here-span : start ≤ next
+  here-span = field-place rule s at end n k start next (x .field) .span
+
+  pub here-within : next ≤ end
+  here-within = field-place rule s at end n k start next (x .field) .within
+
+  -- fewer bytes are left behind it
+  pub here-less : end - next < end - at
+  here-less = omega (arith, x .inside, here-ahead, here-span, here-within)
+
 -- ---- how many fields are allowed does not matter, if they are as many as the bytes
 pub walk-count : (rule : KeyRule) (inside : Item → ℕ) (m m′ : ℕ) (s : List ℕ) (at end : ℕ) → end - at ≤ m → end - at ≤ m′
     → walkIn rule inside m s at end ≡ walkIn rule inside m′ s at end

@@ -8,29 +8,16 @@ use lib.Dec.{eqb}
 use borrow.Author.Tests.{eq-eqb, ne-eqb}
 use lib.ListN.{length}
 use Rattle.laws.specs.Ranges.{part}
-use Rattle.wire.specs.declared.Field.the-variants.{Whole, Fault}
+use Rattle.wire.specs.declared.Field.the-variants.{Fault}
 use Rattle.wire.specs.Fields.{storeKeys, fieldAt}
 use Rattle.wire.specs.Walk.{Item, Walked, walk, lastFrom, last}
-use Rattle.wire.specs.Steps.{Placed, field-place, step-end, step-fault, step-on}
+use Rattle.wire.specs.Steps.{Here, here-span, here-within, step-end, step-fault, step-on}
 use Rattle.wire_reader.specs.Last.{LastIs}
-
--- a whole field stands at a place of a message: its number, its type, where its value starts and where the next field starts
-pub record Here (s : List ℕ) (at end n k start next : ℕ) : Type 0 where
-  pub inside : at < end
-  pub field : fieldAt storeKeys s at end ≡ Whole n k start next
 
 -- a fault stands there
 pub record Faulty (s : List ℕ) (at end code : ℕ) : Type 0 where
   pub inside : at < end
   pub field : fieldAt storeKeys s at end ≡ Fault code
-
-module _ {s : List ℕ} {at end n k start next : ℕ} (x : Here s at end n k start next) where
-  here-placed : Placed at end start next
-  here-placed = field-place storeKeys s at end n k start next (x .field)
-
-  -- fewer bytes are left behind it
-  pub here-less : end - next < end - at
-  here-less = let p = here-placed in omega (arith, x .inside, p .ahead, p .span, p .within)
 
 -- ---- the first fault
 module _ (s : List ℕ) (from end at : ℕ) (h : walk storeKeys s from end .fault ≡ walk storeKeys s at end .fault) where
@@ -40,7 +27,7 @@ module _ (s : List ℕ) (from end at : ℕ) (h : walk storeKeys s from end .faul
   pub fault-found : {c : ℕ} → Faulty s at end c → c ≡ walk storeKeys s from end .fault
   fault-found {c} x = sym (h ∙ ap (λ (w : Walked). w .fault) (step-fault storeKeys (λ (i : Item). 0) s at end c (x .inside) (x .field)))
 
-  pub fault-on : {n k start next : ℕ} → Here s at end n k start next → walk storeKeys s from end .fault ≡ walk storeKeys s next end .fault
+  pub fault-on : {n k start next : ℕ} → Here storeKeys s at end n k start next → walk storeKeys s from end .fault ≡ walk storeKeys s next end .fault
   fault-on {n} {k} {start} {next} x = h ∙ ap (λ (w : Walked). w .fault) (step-on storeKeys (λ (i : Item). 0) s at end n k start next (x .inside) (x .field) refl)
 
 -- ---- the last field of a number
@@ -69,14 +56,14 @@ module _ {s : List ℕ} {from end wanted at first stop : ℕ} (h : Lasts s from 
     value = sym (h .value ∙ ap rest (step-fault storeKeys (λ (i : Item). 0) s at end c (x .inside) (x .field)));
   }
 
-  module _ {n k start next : ℕ} (x : Here s at end n k start next) where
+  module _ {n k start next : ℕ} (x : Here storeKeys s at end n k start next) where
     value-on : last s wanted (walk storeKeys s from end .items)
         ≡ lastFrom s wanted (cond (eqb n wanted) (part start (next - start) s) (part first (stop - first) s)) (walk storeKeys s next end .items)
     unfolding lastFrom
     value-on = h .value ∙ ap rest (step-on storeKeys (λ (i : Item). 0) s at end n k start next (x .inside) (x .field) refl)
 
     pub last-hit : n ≡ wanted → end ≤ length s → Lasts s from end wanted next start next
-    last-hit q b = let p = here-placed x in record { ordered = p .span; inside = omega (arith, p .within); value = value-on ∙ rw (eq-eqb n wanted q) }
+    last-hit q b = record { ordered = here-span x; inside = omega (arith, here-within x); value = value-on ∙ rw (eq-eqb n wanted q) }
 
     pub last-miss : (n ≡ wanted → ⊥) → Lasts s from end wanted next first stop
     last-miss q = record { ordered = h .ordered; inside = h .inside; value = value-on ∙ rw (ne-eqb n wanted q) }

@@ -6,7 +6,8 @@ use lib.ListN.{length}
 use Rattle.wire.specs.Fields.{storeKeys}
 use Rattle.wire.specs.Walk.{walkWith}
 use Rattle.store_file.specs.Messages.{inside, storeIn}
-use Rattle.store_file.specs.ScanLaws.{Here, here-within, here-less}
+use Rattle.wire.specs.Steps.{here-within, here-less}
+use Rattle.store_file.specs.ScanLaws.{Here}
 use Rattle.store_check.proofs.Ways.{store-end, store-found, store-inner, store-blob, store-other}
 use borrow.Author.Needs.{needs}
 use Rattle.store_check.proofs.store_fault.Statement.{statement}

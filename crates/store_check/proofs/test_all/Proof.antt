@@ -3,7 +3,8 @@ use mathlib.Core.Path.{sym, _∙_}
 use Prim.Native.Nat.{_-_}
 use native.Mathlib.Omega.{arith}
 use lib.ListN.{length}
-use Rattle.store_file.specs.ScanLaws.{Here, here-ahead, here-span, here-within, here-less, scans-end, scans-fault}
+use Rattle.wire.specs.Steps.{here-ahead, here-span, here-within, here-less}
+use Rattle.store_file.specs.ScanLaws.{Here, scans-end, scans-fault}
 use Rattle.store_check.proofs.Ways.{Testing, testing-start, testing-end, testing-blob, testing-other}
 use borrow.Author.Needs.{needs}
 use Rattle.store_check.proofs.test_all.Statement.{statement}

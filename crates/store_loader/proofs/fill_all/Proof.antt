@@ -3,7 +3,8 @@ use mathlib.Core.Path.{sym, _∙_}
 use Prim.Native.Nat.{_-_}
 use native.Mathlib.Omega.{arith}
 use lib.ListN.{length}
-use Rattle.store_file.specs.ScanLaws.{Here, here-less, scans-end, scans-fault}
+use Rattle.wire.specs.Steps.{here-less}
+use Rattle.store_file.specs.ScanLaws.{Here, scans-end, scans-fault}
 use Rattle.store_loader.proofs.Laws.{Filled, filled-start, filled-end, filled-other, filled-room, filled-fits, filled-more}
 use borrow.Author.Needs.{needs}
 use Rattle.store_loader.proofs.fill_all.Statement.{statement}

@@ -5,7 +5,8 @@ use native.Mathlib.Omega.{arith}
 use borrow.Author.Tests.{not-true, not-false}
 use lib.ListN.{length}
 use Rattle.store_file.specs.Scans.{scansFrom}
-use Rattle.store_file.specs.ScanLaws.{Here, here-within, here-less, scans-blob, scans-other, scans-end, scans-fault}
+use Rattle.wire.specs.Steps.{here-within, here-less}
+use Rattle.store_file.specs.ScanLaws.{Here, scans-blob, scans-other, scans-end, scans-fault}
 use Rattle.store_names.specs.Laws.{Passed, passed-start, passed-on, passed-end, passed-no, passed-more}
 use borrow.Author.Needs.{needs}
 use Rattle.store_names.proofs.class_apart.Statement.{statement}

@@ -10,7 +10,8 @@ use Rattle.laws.specs.Ranges.{part}
 use Rattle.laws.specs.Bytes.{same}
 use Rattle.store_file.specs.Messages.{Scan}
 use Rattle.store_file.specs.Scans.{scansFrom, scanBetween}
-use Rattle.store_file.specs.ScanLaws.{Here, here-ahead, here-span, here-within, here-less, scans-blob, scans-other, scans-end, scans-fault}
+use Rattle.wire.specs.Steps.{here-ahead, here-span, here-within, here-less}
+use Rattle.store_file.specs.ScanLaws.{Here, scans-blob, scans-other, scans-end, scans-fault}
 use Rattle.store_names.specs.Names.{countNamed}
 use Rattle.store_names.specs.Laws.{cond-most, counted-end, counted-step}
 use borrow.Author.Needs.{needs}

@@ -4,7 +4,8 @@ use Prim.Native.Nat.{_-_}
 use native.Mathlib.Omega.{arith}
 use Rattle.wire.specs.Fields.{storeKeys}
 use Rattle.wire.specs.Walk.{walk}
-use Rattle.wire_reader.proofs.WalkWays.{Here, here-less, fault-end, fault-found, fault-on}
+use Rattle.wire.specs.Steps.{Here, here-less}
+use Rattle.wire_reader.proofs.WalkWays.{fault-end, fault-found, fault-on}
 use borrow.Author.Needs.{needs}
 use Rattle.wire_reader.proofs.fault_in.Statement.{statement}
 use Rattle.wire_reader.proofs.fault_in.Tie as tie
@@ -27,7 +28,7 @@ fault-turn c = c .before .before .before .before
 
 -- the field that stands at the place
 here : (c : tie.After-field2 Inv-loop μ-loop) → let a = entry (turn c) .args in
-    Here (a .s .now) (turn c .loop .at) (a .end) (c .field2 .given .0 .0) (c .field2 .given .0 .1 .0) (c .field2 .given .0 .1 .1 .0) (c .field2 .given .0 .1 .1 .1 .0)
+    Here storeKeys (a .s .now) (turn c .loop .at) (a .end) (c .field2 .given .0 .0) (c .field2 .given .0 .1 .0) (c .field2 .given .0 .1 .1 .0) (c .field2 .given .0 .1 .1 .1 .0)
 here c = record { inside = omega arith; field = sym (c .before .before .field-at .ensures) ∙ c .field2 .given .1 }
 
 loop-holds : tie.Need-loop-holds Inv-loop μ-loop

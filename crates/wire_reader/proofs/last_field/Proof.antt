@@ -2,7 +2,9 @@
 use mathlib.Core.Path.{sym, _∙_}
 use Prim.Native.Nat.{_-_}
 use native.Mathlib.Omega.{arith}
-use Rattle.wire_reader.proofs.WalkWays.{Here, here-less, Lasts, last-start, last-end, last-fault, last-hit, last-miss}
+use Rattle.wire.specs.Fields.{storeKeys}
+use Rattle.wire.specs.Steps.{Here, here-less}
+use Rattle.wire_reader.proofs.WalkWays.{Lasts, last-start, last-end, last-fault, last-hit, last-miss}
 use borrow.Author.Needs.{needs}
 use Rattle.wire_reader.proofs.last_field.Statement.{statement}
 use Rattle.wire_reader.proofs.last_field.Tie as tie
@@ -25,7 +27,7 @@ fault-turn c = c .before .before .before .before
 
 -- the field that stands at the place
 here : (c : tie.After-field Inv-loop μ-loop) → let a = entry (turn c) .args in
-    Here (a .s .now) (turn c .loop .at) (a .end) (c .field .given .0 .0) (c .field .given .0 .1 .0) (c .field .given .0 .1 .1 .0) (c .field .given .0 .1 .1 .1 .0)
+    Here storeKeys (a .s .now) (turn c .loop .at) (a .end) (c .field .given .0 .0) (c .field .given .0 .1 .0) (c .field .given .0 .1 .1 .0) (c .field .given .0 .1 .1 .1 .0)
 here c = record { inside = omega arith; field = sym (c .before .before .field-at .ensures) ∙ c .field .given .1 }
 
 loop-holds : tie.Need-loop-holds Inv-loop μ-loop
