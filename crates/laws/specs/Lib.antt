@@ -7,4 +7,5 @@ pub mod Find
 pub mod Bytes
 pub mod Pigeon
 pub mod Masks
+pub mod SetBits
 pub mod Fronts

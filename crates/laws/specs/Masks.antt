@@ -18,7 +18,7 @@ at-step k n zero t e ih h = ih (le-of-suc-le-suc h)
 at-step k n (suc d) t e ih h = omega (arith, mod-lt n {m = 2} (omega arith))
 
 -- the bit at the count is set
-trailing-at : (k n : ℕ) → trailingZeros k n < k → bit (trailingZeros k n) n ≡ 1
+pub trailing-at : (k n : ℕ) → trailingZeros k n < k → bit (trailingZeros k n) n ≡ 1
 unfolding trailingZeros
 trailing-at zero n h = absurd (not-suc-le-zero h)
 trailing-at (suc k) n h = at-step k n (n % 2) (trailingZeros k (n / 2)) refl (trailing-at k (n / 2)) h
@@ -29,7 +29,7 @@ below-step n zero t (suc i) e ih h = ih i (le-of-suc-le-suc h)
 below-step n (suc d) t i e ih h = absurd (not-suc-le-zero h)
 
 -- those below it are clear
-trailing-below : (k n i : ℕ) → i < trailingZeros k n → bit i n ≡ 0
+pub trailing-below : (k n i : ℕ) → i < trailingZeros k n → bit i n ≡ 0
 unfolding trailingZeros
 trailing-below zero n i h = absurd (not-suc-le-zero h)
 trailing-below (suc k) n i h = below-step n (n % 2) (trailingZeros k (n / 2)) i refl (trailing-below k (n / 2)) h

@@ -1,6 +1,7 @@
 // Masks: one bit for each row or slot.
 ghost use mathlib.Core.Path.{_≡_};
 ghost use Prim.Native.Nat.{_<_};
+ghost use lib.Count.{trailingZeros};
 ghost use lib.Dec.{eqb};
 ghost use Rattle.laws.specs.Bits.{bit, putBit};
 ghost use Rattle.laws.specs.Masks.{clear};
@@ -45,6 +46,14 @@ pub fn clear_bit(mask: u32, i: usize) -> u32
     ensures { λ x. ⌜ x ≡ putBit i 0 mask ⌝ }
 {
     mask & !(1u32 << i)
+}
+
+// The mask with its lowest set bit clear.
+pub fn clear_lowest(mask: u32) -> u32
+    requires { ⌜ 0 < mask ⌝ }
+    ensures { λ x. ⌜ x ≡ putBit (trailingZeros 32 mask) 0 mask ⌝ }
+{
+    mask & (mask - 1)
 }
 
 // The lowest clear bit of a mask of 16 places: "the lowest free row", "the lowest free slot".
