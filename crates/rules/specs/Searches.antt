@@ -101,8 +101,10 @@ pub found-live : (w : Wanted) (s : State) (r : ℕ) → rowFound w s ≡ some r 
 found-live w s r e = found-row w s r e .0
 
 -- the session of an identifier, in a sound state
+pub row-of-id : (i : ℕ) (s : State) → Sound s → Live i s → rowFound (Id (ident i s)) s ≡ some i
+row-of-id i s g l =
+    only-row (Id (ident i s)) s i l (eq-eqb (ident i s) (ident i s) refl) (λ (r : ℕ) (q : Live r s) (n : r ≢ i). ne-eqb (ident r s) (ident i s) (g .ids r i q l n))
+
 pub session-row : (t i : ℕ) (c : Command) (s : State) → Sound s → Live i s → onSession (Id (ident i s)) t c s ≡ onRow i t c s
 unfolding onSession
-session-row t i c s g l =
-    ap (λ (f : Option ℕ). onFound f (Id (ident i s)) t c s)
-    (only-row (Id (ident i s)) s i l (eq-eqb (ident i s) (ident i s) refl) (λ (r : ℕ) (q : Live r s) (n : r ≢ i). ne-eqb (ident r s) (ident i s) (g .ids r i q l n)))
+session-row t i c s g l = ap (λ (f : Option ℕ). onFound f (Id (ident i s)) t c s) (row-of-id i s g l)

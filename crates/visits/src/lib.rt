@@ -1,0 +1,1 @@
+// How many rows a search visits; there is no code here.
