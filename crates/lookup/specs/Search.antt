@@ -18,10 +18,21 @@ use Rattle.state.specs.Words.{fresh}
 use Rattle.rules.specs.Session.{rowFound}
 use Rattle.rules.specs.Searches.{found-live, named-slot}
 use Rattle.rules.specs.Lookup.{slotNamed, freeRowIn, freeSlotIn}
+use Rattle.visits.specs.Visits.{Search, Looked}
+use Rattle.lookup.specs.declared.RowSearch.{RowSearch}
+use Rattle.lookup.specs.declared.Lookup.{Lookup}
 
 abbrev pub isNone : Option ℕ → Bool
 isNone none = true
 isNone (some i) = false
+
+-- what a search for a row gives, as the definition has it
+abbrev pub searchOf : RowSearch → Search
+searchOf x = record { row = optionOf (x .row); visits = x .visits }
+
+-- what is said of an identifier, as the definition has it
+abbrev pub lookupOf : Lookup → Looked
+lookupOf x = record { code = x .code .0; row = x .row; visits = x .visits }
 
 -- x is the row wanted, in every state with this mask of rows and this session table
 pub record FoundRow (x : Found) (w : Wanted) (rows : ℕ) (table : List ℕ) : Type 0 where

@@ -8,16 +8,20 @@ ghost use Rattle.laws.specs.Bytes.{padded, same};
 ghost use Rattle.protocol.specs.Numbers.{rowCount, slotCount, nameSize, sixteenBits};
 ghost use Rattle.state.specs.declared.row.Wanted.the-variants.{Id};
 ghost use Rattle.state.specs.Entry.{wordsOf};
-ghost use Rattle.state.specs.State.{State, withRows, withNames};
+ghost use Rattle.state.specs.State.{State, withRows};
 ghost use Rattle.state.specs.Lent.{TableLent, NamesLent};
-ghost use Rattle.rules.specs.Session.{matches, wanted, rowFound};
-ghost use Rattle.lookup.specs.Search.{isNone, FoundRow, FoundName, Nth};
-ghost use Rattle.rules.specs.Lookup.{holds, after, freshFrom};
+ghost use Rattle.rules.specs.Session.{matches, rowFound};
+ghost use Rattle.visits.specs.Visits.{searched, tableFits, lookedUp};
+ghost use Rattle.lookup.specs.Search.{isNone, searchOf, lookupOf, FoundRow, FoundName, Nth};
+ghost use Rattle.rules.specs.Lookup.{after, freshFrom};
+use protocol::Code;
 use state::NAME_SIZE;
+use state::ROW_WORDS;
 use state::ROWS;
 use state::SIXTEEN_BITS;
 use state::SLOTS;
 use state::mask::Found;
+use state::mask::clear_lowest;
 use state::mask::has;
 use state::row::Entry;
 use state::row::Wanted;
@@ -34,12 +38,35 @@ fn matches(e: Entry, w: Wanted) -> bool
     }
 }
 
-// Row r is used and the one wanted.
-fn is_wanted(table: &[u32], rows: u32, w: Wanted, r: usize) -> bool
-    requires { ⌜ TableLent (now table) × (r < rowCount) ⌝ }
-    ensures { λ x. ⌜ ((s : State) → x ≡ wanted w (withRows rows (now (table .entry)) s) r) ⌝ }
+// What a search for a row gives: the row, and how many used rows it visited.
+pub struct RowSearch {
+    pub row: Found,
+    pub visits: u32,
+}
+
+// THE SEARCH FOR A ROW: only used rows are visited, the lowest first, each found by the trailing zeros of those that are left.
+pub fn search_rows(table: &[u32], rows: u32, w: Wanted) -> RowSearch
+    requires { ⌜ TableLent (now table) ⌝ }
+    ensures { λ x. ⌜ ((s : State) → searchOf x ≡ searched w (withRows rows (now (table .entry)) s)) ⌝ }
 {
-    has(rows, r) & matches(read_row(table, r), w)
+    // bits past the last row are no rows
+    let mut left = rows % SIXTEEN_BITS;
+    let mut visits: u32 = 0;
+    while left != 0 {
+        let r = u32::trailing_zeros(left) as usize;
+        if matches(read_row(table, r), w) {
+            return RowSearch {
+                row: Found::At(r),
+                visits: visits + 1,
+            };
+        }
+        visits += 1;
+        left = clear_lowest(left);
+    }
+    RowSearch {
+        row: Found::Nothing,
+        visits,
+    }
 }
 
 // The first used row that is the one wanted.
@@ -47,14 +74,50 @@ pub fn find_row(table: &[u32], rows: u32, w: Wanted) -> Found
     requires { ⌜ TableLent (now table) ⌝ }
     ensures { λ f. ⌜ FoundRow f w rows (now (table .entry)) ⌝ }
 {
-    let mut r: usize = 0;
-    while r < ROWS {
-        if is_wanted(table, rows, w, r) {
-            return Found::At(r);
-        }
-        r += 1;
+    let search = search_rows(table, rows, w);
+    search.row
+}
+
+// What is said of an identifier: the completion code, the row, and how many used rows were visited.
+pub struct Lookup {
+    pub code: Code,
+    pub row: u32,
+    pub visits: u32,
+}
+
+// The table has its length, and the mask no bit past its last row.
+fn table_fits(rows: u32, table: &[u32]) -> bool
+    ensures { λ x. ⌜ x ≡ tableFits rows (now (table .entry)) ⌝ }
+{
+    (table.len() == ROWS * ROW_WORDS) & (rows < SIXTEEN_BITS)
+}
+
+// THE LOOKUP OF AN IDENTIFIER by a caller, in any table with any mask of used rows.
+pub fn find_session(identifier: u32, rows: u32, table: &[u32]) -> Lookup
+    ensures { λ x. ⌜ lookupOf x ≡ lookedUp identifier rows (now (table .entry)) ⌝ }
+{
+    if !table_fits(rows, table) {
+        return Lookup {
+            code: Code::NOT_SOUND,
+            row: 0,
+            visits: 0,
+        };
     }
-    Found::Nothing
+    let search = search_rows(table, rows, Wanted::Id(identifier));
+    let found = search.row;
+    let visits = search.visits;
+    match found {
+        Found::At(r) => Lookup {
+            code: Code::SUCCESS,
+            row: r as u32,
+            visits,
+        },
+        Found::Nothing => Lookup {
+            code: Code::NOT_FOUND,
+            row: 0,
+            visits,
+        },
+    }
 }
 
 // Byte i of the padded name that stands in the message.
@@ -79,28 +142,18 @@ fn same_name(names: &[u8], k: usize, message: &[u8], start: usize, len: usize) -
     ok
 }
 
-// Slot k is used and holds the name.
-fn holds_name(names: &[u8], slots: u32, k: usize, message: &[u8], start: usize, len: usize) -> bool
-    requires { ⌜ NamesLent (now names) × ((k < slotCount) × (start + len ≤ length (now message))) ⌝ }
-    ensures { λ x. ⌜ ((s : State) → x ≡ holds (part start len (now (message .entry))) (withNames slots (now (names .entry)) s) k) ⌝ }
-{
-    if !has(slots, k) {
-        return false;
-    }
-    same_name(names, k, message, start, len)
-}
-
-// The used slot that holds the name.
+// The used slot that holds the name: only used slots are visited, as rows are.
 pub fn find_name(names: &[u8], slots: u32, message: &[u8], start: usize, len: usize) -> Found
     requires { ⌜ NamesLent (now names) × (start + len ≤ length (now message)) ⌝ }
     ensures { λ f. ⌜ FoundName f (part start len (now (message .entry))) slots (now (names .entry)) ⌝ }
 {
-    let mut k: usize = 0;
-    while k < SLOTS {
-        if holds_name(names, slots, k, message, start, len) {
+    let mut left = slots % SIXTEEN_BITS;
+    while left != 0 {
+        let k = u32::trailing_zeros(left) as usize;
+        if same_name(names, k, message, start, len) {
             return Found::At(k);
         }
-        k += 1;
+        left = clear_lowest(left);
     }
     Found::Nothing
 }

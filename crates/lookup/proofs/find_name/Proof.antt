@@ -1,74 +1,75 @@
--- `find_name`: no slot passed so far holds the name.
-use mathlib.Core.Path.{_≡_, sym, _∙_, ap}
-use mathlib.Core.Option.{none}
-use Prim.Native.Nat.{_-_, _≤_}
+-- `find_name`: the slots behind do not hold the name.
+use mathlib.Core.Path.{sym, _∙_, subst}
+use mathlib.Core.List.{List}
+use Prim.Native.Nat.{ℕ, _<_}
 use native.Mathlib.Omega.{arith}
+use lib.Count.{trailingZeros}
 use Rattle.laws.specs.Ranges.{part}
-use Rattle.laws.specs.Find.{first, first-at, missed, first-start, first-miss}
+use Rattle.laws.specs.SetBits.{fewer-left}
 use Rattle.protocol.specs.Numbers.{slotCount}
-use Rattle.state.specs.State.{State, withNames}
+use Rattle.lookup.specs.Laws.{SlotsBehind, slots-start, next-slot-low, name-hit, name-miss, name-end}
 use borrow.Author.Needs.{needs}
 use Rattle.lookup.proofs.find_name.Statement.{statement}
-use Rattle.rules.specs.Lookup.{holds, slotNamed}
 use Rattle.lookup.proofs.find_name.Tie as tie
 
 abbrev Inv-loop : tie.InvT-loop
-Inv-loop names slots message start len k₀ k = (k ≤ slotCount) × ((s : State) → first (holds (part start len message) (withNames slots names s)) k ≡ none)
+Inv-loop names slots message start len left₀ left = SlotsBehind (part start len message) slots names left
 
 abbrev μ-loop : tie.MeasureT-loop
-μ-loop names slots message start len k₀ k = slotCount - k
+μ-loop names slots message start len left₀ left = left
 
 -- the places that the answers read
-abbrev entry : tie.Then1 Inv-loop μ-loop → tie.Start Inv-loop μ-loop
-entry c = c .before .before .before .before .before .before
+abbrev entry : tie.At-loop Inv-loop μ-loop → tie.Start Inv-loop μ-loop
+entry c = c .before .before .before
 
-abbrev at-loop : tie.Then1 Inv-loop μ-loop → tie.At-loop Inv-loop μ-loop
-at-loop c = c .before .before .before
+abbrev visit : tie.After-same-name Inv-loop μ-loop → tie.In-loop Inv-loop μ-loop
+visit c = c .before
 
-abbrev at-loop₂ : tie.Else1 Inv-loop μ-loop → tie.At-loop Inv-loop μ-loop
-at-loop₂ c = c .before .before .before
+-- the name that is looked for
+abbrev sought : tie.Start Inv-loop μ-loop → List ℕ
+sought c = part (c .args .start) (c .args .len) (c .args .message .now)
 
-abbrev entry₂ : tie.After-loop Inv-loop μ-loop → tie.Start Inv-loop μ-loop
-entry₂ c = c .before .before .before .before
+low : (c : tie.In-loop Inv-loop μ-loop) → trailingZeros 32 (c .before .loop .left) < slotCount
+low c = let a = entry (c .before) .args in next-slot-low (sought (entry (c .before))) (a .slots) (a .names .now) (c .before .loop .left) (c .before .loop .inv) (c .loop-test .taken)
 
 loop-holds : tie.Need-loop-holds Inv-loop μ-loop
-loop-holds c = (omega arith, λ (s : State). first-start _)
+loop-holds c = let a = c .before .before .args in slots-start (sought (c .before .before)) (a .slots) (a .names .now)
 
-holds-name-requires : tie.Need-holds-name-requires Inv-loop μ-loop
-holds-name-requires c κs = search needs
+cast-k : tie.Need-cast-k Inv-loop μ-loop
+cast-k c = omega (arith, low c)
+
+same-name-requires : tie.Need-same-name-requires Inv-loop μ-loop
+same-name-requires c κs = let p = entry (c .before) .pre in (p .0, (low c, p .1))
 
 returns : tie.Need-returns Inv-loop μ-loop
-unfolding slotNamed
 returns c =
-    record {
-      name-found = λ (s : State).
-          let a = entry c .args in
-          let l = at-loop c .loop in
-          let f = holds (part (a .start) (a .len) (a .message .now)) (withNames (a .slots) (a .names .now) s) in
-          sym (first-at f slotCount (l .k) (omega arith) (sym (c .before .holds-name .ensures s) ∙ c .if1 .taken) (missed f (l .k) (l .inv .1 s)));
-    }
+    let v = visit (c .before) in
+    let a = entry (v .before) .args in
+    let l = v .before .loop in
+    record { name-found = name-hit (sought (entry (v .before))) (a .slots) (a .names .now) (l .left) (l .inv) (v .loop-test .taken) (sym (c .before .same-name .ensures) ∙ c .if1 .taken) }
 
-add-k : tie.Need-add-k Inv-loop μ-loop
-add-k c = omega arith
+clear-lowest-requires : tie.Need-clear-lowest-requires Inv-loop μ-loop
+clear-lowest-requires c κs = search needs
 
 loop-less : tie.Need-loop-less Inv-loop μ-loop
-loop-less c = omega arith
+loop-less c =
+    let v = visit (c .before .before) in
+    subst (λ (x : ℕ). x < v .before .loop .left) (sym (c .clear-lowest .ensures)) (fewer-left 32 (v .before .loop .left) (omega (arith, low v)))
 
 loop-again : tie.Need-loop-again Inv-loop μ-loop
 loop-again c =
-    let l = at-loop₂ c .loop in
-    (omega arith, λ (s : State). first-miss _ (l .k) (l .inv .1 s) (sym (c .before .holds-name .ensures s) ∙ c .if1 .left))
+    let v = visit (c .before .before) in
+    let n = sought (entry (v .before)) in
+    let a = entry (v .before) .args in
+    let l = v .before .loop in
+    subst (λ (x : ℕ). SlotsBehind n (a .slots) (a .names .now) x) (sym (c .clear-lowest .ensures))
+    (name-miss n (a .slots) (a .names .now) (l .left) (l .inv) (v .loop-test .taken) (sym (c .before .before .same-name .ensures) ∙ c .before .if1 .left))
 
 returns-2 : tie.Need-returns-2 Inv-loop μ-loop
-unfolding slotNamed
 returns-2 c =
-    record {
-      name-found = λ (s : State).
-          let a = entry₂ c .args in
-          let l = c .before .loop in
-          let e : slotCount ≡ l .k = omega arith in
-          sym (ap (first (holds (part (a .start) (a .len) (a .message .now)) (withNames (a .slots) (a .names .now) s))) e ∙ l .inv .1 s);
-    }
+    let n = sought (entry (c .before)) in
+    let a = entry (c .before) .args in
+    record { name-found = name-end n (a .slots) (a .names .now) (subst (λ (x : ℕ). SlotsBehind n (a .slots) (a .names .now) x) (c .loop-test .left) (c .before .loop .inv)) }
 
 pub find-name-spec : {M : Type 1} → statement M
 find-name-spec =
@@ -77,9 +78,10 @@ find-name-spec =
     Inv-loop
     μ-loop
     loop-holds
-    holds-name-requires
+    cast-k
+    same-name-requires
     returns
-    add-k
+    clear-lowest-requires
     loop-less
     loop-again
     returns-2)
