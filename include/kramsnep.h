@@ -7,7 +7,7 @@
  * docs/PROTOCOL.md has the rules.
  *
  * In this order: version; messages (frame, CRC, subcommands and their fields, flags, states, names, completion codes, times, what a client does);
- * the memory to lend and what stands in it; the four functions, the last two with the form of a store file; the memory as one struct. The four
+ * the memory to lend and what stands in it; the five functions, two of them with the form of a store file; the memory as one struct. The five
  * functions are proved; the inline functions of this page are plain C, tested and not proved. It needs C99 or later, or C++11 or later, and a machine
  * that the archive was made for (x86-64).
  *
@@ -26,6 +26,7 @@
  *
  * The library tests at each call that the lent lengths are exact and that the state is sound; if not, the result is KRAMSNEP_NOT_SOUND and
  * nothing is changed. So wrong lengths and damaged memory are refused, but null or dangling pointers and false lengths are not caught.
+ * (kramsnep_find_session is lent the session table alone, and tests its length and the mask that goes with it.)
  *
  * Threads. Calls on different memory may run at the same time. Calls on the same memory must not: hold a lock, or call from one task.
  * A call does not block and always ends. It needs little stack: less than 3 KB on x86-64, over every subcommand and every part of a store file. Only
@@ -43,9 +44,9 @@ extern "C" {
 
 /* ---- Version: semantic. Before 1.0.0 a minor version may change what is here; docs/CHANGELOG.md says what. */
 #define KRAMSNEP_VERSION_MAJOR 0
-#define KRAMSNEP_VERSION_MINOR 3
+#define KRAMSNEP_VERSION_MINOR 4
 #define KRAMSNEP_VERSION_PATCH 0
-#define KRAMSNEP_VERSION "0.3.0"
+#define KRAMSNEP_VERSION "0.4.0"
 
 /* ---- Messages
  *
@@ -301,7 +302,7 @@ static inline uint16_t kramsnep_crc(const uint8_t *bytes, size_t n)
 #define KRAMSNEP_JOB_SUCCEEDED 2
 #define KRAMSNEP_JOB_FAILED 3
 
-/* ---- The four functions */
+/* ---- The five functions */
 
 /* The two halves of a result of kramsnep_respond or kramsnep_save_part: completion code, and length of what was written (0 for a refusal). */
 #define KRAMSNEP_CODE(result) ((uint8_t)((result) & 0xFFu))
@@ -415,6 +416,25 @@ uint32_t kramsnep_load(const uint8_t *file, size_t file_len, uint32_t *control, 
                        uint8_t *staged, size_t staged_len, const uint8_t *image, size_t image_len,
                        const uint8_t *hash, size_t hash_len);
 
+/* A result of kramsnep_find_session beside its completion code: the row, and the number of rows visited. */
+#define KRAMSNEP_SESSION_ROW(result) (((result) >> 8) & 0xFFu)
+#define KRAMSNEP_ROWS_VISITED(result) ((result) >> 16)
+
+/* Finds the row of the session table that has an identifier: what a session is on, and when it was last used, stands there. Nothing is changed.
+ *
+ * identifier: compared as a whole word with the first word of a row. Those that Opens give out are below 65,536.
+ * rows: the mask of rows in use, word KRAMSNEP_CONTROL_ROWS of the control block.
+ * table: the session table. The state is not tested: any words are searched.
+ *
+ * Only rows in use are visited, the lowest first, and the search ends at the first that has the identifier: the row that a request with this
+ * identifier acts on. The number visited counts the one found too; where none is found, all rows in use were visited.
+ *
+ * The result is the completion code in the lowest byte, the row in the byte above it, and the number of rows visited above both:
+ *   KRAMSNEP_SUCCESS    found
+ *   KRAMSNEP_NOT_FOUND  no row in use has the identifier; the row is told as 0
+ *   KRAMSNEP_NOT_SOUND  the table's length is wrong, or the mask has a bit past the last row; nothing was visited, and the result is this code alone */
+uint32_t kramsnep_find_session(uint32_t identifier, uint32_t rows, const uint32_t *table, size_t table_len);
+
 /* ---- All of it in one place, for callers who keep it so */
 
 struct kramsnep_memory {
@@ -463,6 +483,12 @@ static inline uint32_t kramsnep_load_in(struct kramsnep_memory *m, const uint8_t
     return kramsnep_load(file, file_len, m->control, KRAMSNEP_CONTROL_WORDS, m->table, KRAMSNEP_TABLE_WORDS, m->names, KRAMSNEP_NAMES_SIZE,
                          m->committed, KRAMSNEP_COMMITTED_SIZE, m->staged, KRAMSNEP_STAGED_SIZE, m->image, KRAMSNEP_IMAGE_SIZE,
                          m->hash, KRAMSNEP_HASH_SIZE);
+}
+
+/* kramsnep_find_session on memory of that type. */
+static inline uint32_t kramsnep_find_session_in(const struct kramsnep_memory *m, uint32_t identifier)
+{
+    return kramsnep_find_session(identifier, m->control[KRAMSNEP_CONTROL_ROWS], m->table, KRAMSNEP_TABLE_WORDS);
 }
 
 #ifdef __cplusplus

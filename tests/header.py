@@ -259,7 +259,7 @@ def linked_from(compiler_of_cpp):
     with tempfile.TemporaryDirectory() as name:
         folder = pathlib.Path(name)
         (folder / "stub.c").write_text(STUBS, encoding="ascii")
-        calls = "kramsnep_respond_in(&m, m.names, 0, 0, m.hash) + kramsnep_job_outcome_in(&m, 0) + kramsnep_save_part_in(&m, 0, m.image) + kramsnep_load_in(&m, m.hash, 0)"
+        calls = "kramsnep_respond_in(&m, m.names, 0, 0, m.hash) + kramsnep_job_outcome_in(&m, 0) + kramsnep_save_part_in(&m, 0, m.image) + kramsnep_load_in(&m, m.hash, 0) + kramsnep_find_session_in(&m, 0)"
         (folder / "main.cpp").write_text(f'#include "kramsnep.h"\nint main() {{ static kramsnep_memory m; return (int)({calls}); }}\n', encoding="ascii")
         subprocess.run([*compiler(), "-c", f"-I{HEADER.parent}", "stub.c"], cwd=folder, check=True)
         done = subprocess.run([*compiler_of_cpp, f"-I{HEADER.parent}", "main.cpp", "stub.o", "-o", "main"], cwd=folder, capture_output=True, text=True, check=False)
@@ -269,10 +269,10 @@ def linked_from(compiler_of_cpp):
 def prototypes():
     """The functions of the header are the proved ones, and have their parameters."""
     faults, code, text = [], text_of("capi/src/lib.rt"), HEADER.read_text(encoding="ascii")
-    proved = re.findall(r'(?ms)^pub extern "C" fn (\w+)\((.*?)^\) -> u32$', code)
+    proved = re.findall(r'(?ms)^pub extern "C" fn (\w+)\((.*?)\) -> u32$', code)
     for function, listed in proved:
         wanted = []
-        for name, kind in re.findall(r"(\w+): ([^,]+),", listed):
+        for name, kind in re.findall(r"(\w+): ([^,]+)", listed):
             slice_of = re.fullmatch(r"&(mut )?\[(u\d+)\]", kind)
             wanted.append(f"{'' if slice_of.group(1) else 'const '}{slice_of.group(2).replace('u', 'uint')}_t *{name}, size_t {name}_len" if slice_of else f"{kind.replace('u', 'uint')}_t {name}")
         found = re.search(rf"(?ms)^uint32_t {function}\((.*?)\);", text)
@@ -319,6 +319,11 @@ uint32_t kramsnep_load(const uint8_t *a, size_t b, uint32_t *d, size_t e, const 
     printf("%ld %zu %ld %zu %ld %zu %ld %zu %ld %zu %ld %zu %ld %zu\n", PLACE(d), e, PLACE(f), g, PLACE(h), i, PLACE(j), k, PLACE(l), m, PLACE(n), o, PLACE(p), q);
     return 111;
 }
+uint32_t kramsnep_find_session(uint32_t i, uint32_t r, const uint32_t *f, size_t g)
+{
+    printf("%u %u %ld %zu\n", i, r, PLACE(f), g);
+    return 122;
+}
 """
 
 
@@ -335,10 +340,11 @@ def in_one_place():
             "    const struct kramsnep_memory *read = &m;", "    lent = (const char *)&m;",
             '    printf("%u\\n", kramsnep_respond_in(&m, request, 3, 4000000000u, answer));', '    printf("%u\\n", kramsnep_job_outcome_in(&m, 5));',
             '    printf("%u\\n", kramsnep_save_part_in(read, 4000000001u, buffer));', '    printf("%u\\n", kramsnep_load_in(&m, file, 5));', '    printf("%zu\\n", sizeof m);',
-            "    m.control[KRAMSNEP_CONTROL_ROWS] = 2; m.table[5] = KRAMSNEP_BLOB_UPDATE; m.table[6] = 0x10002;", '    printf("%d\\n", kramsnep_running_job_in(read));']
+            "    m.control[KRAMSNEP_CONTROL_ROWS] = 2; m.table[5] = KRAMSNEP_BLOB_UPDATE; m.table[6] = 0x10002;", '    printf("%d\\n", kramsnep_running_job_in(read));',
+            '    printf("%u\\n", kramsnep_find_session_in(read, 4000000002u));']
     found = [[int(word) for word in line.split()] for line in run_c("\n".join(body), STUBS).splitlines()]
     wanted = [[11, 3, 4000000000, *buffers, 21, known["answerSize"]], [77], [5, *buffers], [88], [4000000001, *buffers, 31, known["bufferSize"]], [99], [41, 5, *buffers], [111],
-              [at], [known["updateBlob"]]]
+              [at], [known["updateBlob"]], [4000000002, 2, *buffers[2:4]], [122]]
     return [f"handed on: {one}, not {other}" for one, other in zip(found, wanted, strict=True) if one != other]
 
 
@@ -502,15 +508,18 @@ def jobs():
 
 
 def parts():
-    """The status in a row's word, on both sides of each multiple of its unit, and the two parts of a result."""
+    """The status in a row's word, on both sides of each multiple of its unit; the two parts of a result, and the three of a lookup's."""
     known = definitions()
     words = [k * known["statusUnit"] + d for k in range(1, 9) for d in (-1, 0)]
     results = [code + known["codeUnit"] * length for code in (known["success"], known["notSound"]) for length in (0, 1, known["answerSize"], known["bufferSize"])]
     wanted = [word // known["statusUnit"] % 4 for word in words] + [part for result in results for part in (result % known["codeUnit"], result // known["codeUnit"])]
+    lookups = [code + known["codeUnit"] * row + known["visitUnit"] * visits for code in (known["success"], known["notFound"]) for row in (0, 1, 15) for visits in (0, 1, 16)]
+    wanted += [part for result in lookups for part in (result % known["codeUnit"], result // known["codeUnit"] % known["codeUnit"], result // known["visitUnit"])]
     body = [f'    printf("%u\\n", (unsigned)KRAMSNEP_JOB_STATUS({word}u & 0xFFFFFFFFu));' for word in words]
     body += [f'    printf("%u %u\\n", (unsigned)KRAMSNEP_CODE({result}u | 0u), (unsigned)KRAMSNEP_LENGTH({result}u & 0xFFFFFFFFu));' for result in results]
+    body += [f'    printf("%u %u %u\\n", (unsigned)KRAMSNEP_CODE({result}u | 0u), (unsigned)KRAMSNEP_SESSION_ROW({result}u | 0u), (unsigned)KRAMSNEP_ROWS_VISITED({result}u | 0u));' for result in lookups]
     found = list(map(int, run_c("\n".join(body)).split()))
-    return [] if found == wanted else [f"KRAMSNEP_JOB_STATUS, KRAMSNEP_CODE and KRAMSNEP_LENGTH give {found}, not {wanted}"]
+    return [] if found == wanted else [f"KRAMSNEP_JOB_STATUS, KRAMSNEP_CODE, KRAMSNEP_LENGTH, KRAMSNEP_SESSION_ROW and KRAMSNEP_ROWS_VISITED give {found}, not {wanted}"]
 
 
 def version():

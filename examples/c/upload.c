@@ -1,4 +1,4 @@
-/* Uploads a scan through the C interface, reads it back, and runs one verify job. Each line: what was asked, the completion code, the response.
+/* Uploads a scan through the C interface, looks up its session, reads it back, and runs one verify job. Each line: what was asked, the completion code, the response.
  * Every completion code is checked: one that is not expected ends the program with status 1, and nothing is read from the answer to a refusal.
  *
  * upload [NAME]: the scan's name, /scan/moreau without one. */
@@ -68,6 +68,16 @@ static void on_session(const char *what, uint8_t subcommand, uint16_t session)
     ask(what, subcommand, subcommand == KRAMSNEP_COMMAND_COMMIT ? KRAMSNEP_COMMIT_REQUEST_LEAST : KRAMSNEP_CLOSE_REQUEST_SIZE, KRAMSNEP_SUCCESS);
 }
 
+/* Which row of the session table the session has, and how many rows in use were visited to find it. */
+static void find(const char *what, uint16_t session, uint8_t expected)
+{
+    uint32_t result = kramsnep_find_session_in(&memory, session), row = KRAMSNEP_SESSION_ROW(result);
+    printf("%s: %02X, row %u, visited %u\n", what, KRAMSNEP_CODE(result), (unsigned)row, (unsigned)KRAMSNEP_ROWS_VISITED(result));
+    must(KRAMSNEP_CODE(result) == expected, what, "not the completion code that was expected");
+    if (expected == KRAMSNEP_SUCCESS)
+        must(memory.table[row * KRAMSNEP_ROW_WORDS + KRAMSNEP_ROW_IDENTIFIER] == session, what, "another session's row");
+}
+
 static void write_all(uint16_t session, const char *bytes, size_t n)
 {
     for (size_t at = 0, part; at < n; at += part) {
@@ -110,9 +120,11 @@ int main(int count, char **words)
 
     (void)open_blob("open to read, before it is there", KRAMSNEP_FLAGS_READ, name, KRAMSNEP_NOT_FOUND);
     uint16_t session = open_blob("open to write", KRAMSNEP_FLAGS_READ_WRITE, name, KRAMSNEP_SUCCESS);
+    find("find the session", session, KRAMSNEP_SUCCESS);
     write_all(session, scan, strlen(scan));
     on_session("commit", KRAMSNEP_COMMAND_COMMIT, session);
     on_session("close", KRAMSNEP_COMMAND_CLOSE, session);
+    find("find the closed session", session, KRAMSNEP_NOT_FOUND);
 
     session = open_blob("open to read", KRAMSNEP_FLAGS_READ, name, KRAMSNEP_SUCCESS);
     size_t n = read_all(session, back);

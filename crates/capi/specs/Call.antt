@@ -10,6 +10,7 @@ use Rattle.state.specs.declared.Control.{Control}
 use Rattle.rules.specs.Respond.{Effect, jobOutcome, Served, served}
 use Rattle.store_file.specs.Saved.{Call, savedInto}
 use Rattle.store_file.specs.Loaded.{Loaded, loaded}
+use Rattle.visits.specs.Visits.{Looked}
 use Rattle.capi_control.specs.Words.{controlFits, controlOf, wordsOf}
 
 -- the memory that holds a state: the control block's words, then what the state lends
@@ -131,3 +132,12 @@ loadedWith v = record { code = v .code; memory = memoryOf (v .state) }
 -- THE C FUNCTION `kramsnep_load`: what the library makes of the file, where the control block's words are one; else FF, and all is as found (rule 24.8)
 unfoldable pub loadedCall : List ℕ → Memory → Reported
 loadedCall f l = cond (controlFits (l .control)) (loadedWith (loaded f (stateIn l))) (keptWith notSound l)
+
+-- ---- a lookup
+-- in the result of a lookup the row fills the byte above the code, and the number of rows visited stands above both (rule 25.4)
+abbrev pub visitUnit : ℕ
+visitUnit = 65536
+
+-- what such a result says (rule 25.4)
+abbrev pub lookupIn : ℕ → Looked
+lookupIn r = record { code = r % codeUnit; row = r / codeUnit % codeUnit; visits = r / visitUnit }
