@@ -193,6 +193,8 @@ pub trait Implementation {
     fn save_part(&mut self, part: u32, memory: &mut OwnedMemory, buffer: &mut Vec<u8>) -> u32;
     /// Completion code.
     fn load(&mut self, file: &[u8], memory: &mut OwnedMemory) -> u32;
+    /// Completion code + 256 × the row + 65,536 × the number of rows visited.
+    fn find_session(&mut self, identifier: u32, rows: u32, table: &[u32]) -> u32;
 }
 
 /// This package's implementation.
@@ -213,6 +215,10 @@ impl Implementation for Second {
 
     fn load(&mut self, file: &[u8], memory: &mut OwnedMemory) -> u32 {
         crate::load(file, &mut memory.lend())
+    }
+
+    fn find_session(&mut self, identifier: u32, rows: u32, table: &[u32]) -> u32 {
+        crate::find_session(identifier, rows, table)
     }
 }
 

@@ -40,11 +40,14 @@ extern "C" {
         staged: *mut u8, staged_len: usize, image: *const u8, image_len: usize,
         hash: *const u8, hash_len: usize,
     ) -> u32;
+
+    /// Gives the completion code + 256 × the row + 65,536 × the number of rows visited.
+    fn kramsnep_find_session(identifier: u32, rows: u32, table: *const u32, table_len: usize) -> u32;
 }
 
 /// The first implementation, linked as a static library.
 ///
-/// A vector's pointer is never null, also when it is empty, so each slice goes with a good pointer.
+/// The pointer of a vector or a slice is never null, also when it is empty, so each slice goes with a good pointer.
 pub struct Library;
 
 impl Implementation for Library {
@@ -106,5 +109,10 @@ impl Implementation for Library {
                 m.hash.as_ptr(), m.hash.len(),
             )
         }
+    }
+
+    fn find_session(&mut self, identifier: u32, rows: u32, table: &[u32]) -> u32 {
+        // As above; nothing is written.
+        unsafe { kramsnep_find_session(identifier, rows, table.as_ptr(), table.len()) }
     }
 }

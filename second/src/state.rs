@@ -28,7 +28,7 @@ pub const NEXT_IDENTIFIER: usize = 38;
 pub const LAST_SWEEP: usize = 39;
 
 /// The limit of rule 6.2.
-const LIMIT: u32 = 65_536;
+pub const LIMIT: u32 = 65_536;
 
 /// Flags of a session.
 pub const FLAGS_READ: u32 = 0x0001;
@@ -130,7 +130,8 @@ impl Row {
     }
 }
 
-fn bit(mask: u32, place: usize) -> bool {
+/// Whether the mask has this place.
+pub fn bit(mask: u32, place: usize) -> bool {
     u32::try_from(place).ok().and_then(|place| mask.checked_shr(place)).is_some_and(|shifted| shifted & 1 == 1)
 }
 

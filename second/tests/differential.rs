@@ -11,7 +11,7 @@
 mod parts;
 
 use parts::tally::Tally;
-use parts::{histories, merges, messages, states, store_files, unsound, Share, WORKERS};
+use parts::{histories, lookups, merges, messages, states, store_files, unsound, Share, WORKERS};
 use std::process::ExitCode;
 use std::sync::Mutex;
 use std::time::{Duration, Instant};
@@ -38,6 +38,13 @@ const PARTS: &[Part] = &[
     ("cut store files", store_files::cut),
     ("store file bytes", store_files::every_byte),
     ("damaged files", store_files::damaged),
+    ("mask lookups", lookups::every_mask),
+    ("made lookups", lookups::made),
+    ("alike lookups", lookups::alike),
+    ("refused lookups", lookups::refused),
+    ("random lookups", lookups::random),
+    ("state lookups", lookups::states),
+    ("history lookups", lookups::histories),
 ];
 
 /// The result of one worker's share of a part.

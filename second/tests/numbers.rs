@@ -1,11 +1,11 @@
 //! The examples of docs/PROTOCOL.md and of document 01, four errors that are easily made, each completion code (rules
-//! 7.1-7.11), and store files byte by byte.
+//! 7.1-7.11), store files byte by byte, and lookups with the number of rows visited.
 
 use second::code::Code;
 use second::crc::crc;
 use second::harness::{self as h, Implementation, OwnedMemory, Second, OTHER};
 use second::state::{
-    COMMITTED_LENGTHS, LAST_SWEEP, NEXT_IDENTIFIER, PHASE, SLOTS_COMMITTED, SLOTS_USED, STAGED_LENGTHS,
+    COMMITTED_LENGTHS, LAST_SWEEP, NEXT_IDENTIFIER, PHASE, ROWS_USED, SLOTS_COMMITTED, SLOTS_USED, STAGED_LENGTHS,
 };
 use second::wire::{push_counted, push_number, Field, Fields, Kind, Value};
 
@@ -1118,4 +1118,119 @@ fn load_of_other_forms() {
     assert_eq!(cabinet.load(&file), 0);
     let scans = cabinet.memory.committed_scans();
     assert_eq!(scans, [(b"/scan/a".to_vec(), b"z".to_vec())]);
+}
+
+// ---- Lookups ----
+
+/// A table with these rows: place and identifier. The other words of all rows are 9.
+fn table(rows: &[(usize, u32)]) -> Vec<u32> {
+    let mut table = [0, 9, 9, 9].repeat(16);
+    for (row, identifier) in rows {
+        table[4 * row] = *identifier;
+    }
+    table
+}
+
+/// The result, by both.
+fn find_session(identifier: u32, rows: u32, table: &[u32]) -> u32 {
+    let before = table.to_vec();
+    let result = Second.find_session(identifier, rows, table);
+    assert_eq!({ OTHER }.find_session(identifier, rows, table), result);
+    assert_eq!(table, before);
+    result
+}
+
+/// The row is in the second byte, and the number visited above it.
+#[test]
+fn lookup_counts_used_rows_only() {
+    assert_eq!(find_session(7, 0x0001, &table(&[(0, 7)])), 0x01_00_00);
+    assert_eq!(find_session(7, 0x8000, &table(&[(15, 7)])), 0x01_0F_00);
+    assert_eq!(find_session(7, 0x8001, &table(&[(0, 5), (15, 7)])), 0x02_0F_00);
+    // Rows 1, 4 and 6 are used, then 9 and 13.
+    let five = table(&[(1, 70), (4, 71), (6, 72), (9, 73), (13, 74)]);
+    for (identifier, result) in [
+        (70, 0x01_01_00),
+        (71, 0x02_04_00),
+        (72, 0x03_06_00),
+        (73, 0x04_09_00),
+        (74, 0x05_0D_00),
+        (75, 0x05_00_CB),
+        // What all other words are, and what unused rows have for an identifier.
+        (9, 0x05_00_CB),
+        (0, 0x05_00_CB),
+    ] {
+        assert_eq!(find_session(identifier, 0x2252, &five), result, "{identifier}");
+    }
+}
+
+#[test]
+fn lookup_in_a_full_and_in_an_empty_table() {
+    let rows: Vec<(usize, u32)> = (0..16).map(|row| (row, 100 + row as u32)).collect();
+    let full = table(&rows);
+    assert_eq!(find_session(100, 0xFFFF, &full), 0x01_00_00);
+    assert_eq!(find_session(101, 0xFFFF, &full), 0x02_01_00);
+    assert_eq!(find_session(115, 0xFFFF, &full), 0x10_0F_00);
+    assert_eq!(find_session(116, 0xFFFF, &full), 0x10_00_CB);
+    assert_eq!(find_session(100, 0xFFFE, &full), 0x0F_00_CB);
+    assert_eq!(find_session(100, 0, &full), 0x00_00_CB);
+    assert_eq!(find_session(0, 0, &[0; 64]), 0x00_00_CB);
+    assert_eq!(find_session(0, 0xFFFF, &[0; 64]), 0x01_00_00);
+}
+
+/// The lowest used row counts; a row that is not used neither counts nor is found.
+#[test]
+fn lookup_of_an_identifier_that_comes_twice() {
+    let twice = table(&[(2, 7), (3, 8), (5, 7)]);
+    assert_eq!(find_session(7, 0x002C, &twice), 0x01_02_00);
+    assert_eq!(find_session(7, 0x0028, &twice), 0x02_05_00);
+    assert_eq!(find_session(7, 0x0020, &twice), 0x01_05_00);
+    assert_eq!(find_session(7, 0x0008, &twice), 0x01_00_CB);
+    assert_eq!(find_session(7, 0xFFD3, &twice), 0x0D_00_CB);
+}
+
+/// An identifier is a word of 32 bits: 65,543 is not 7.
+#[test]
+fn lookup_of_the_whole_word() {
+    let low = table(&[(0, 7), (1, 0xFFFF)]);
+    assert_eq!(find_session(65_543, 0x0003, &low), 0x02_00_CB);
+    assert_eq!(find_session(u32::MAX, 0x0003, &low), 0x02_00_CB);
+    let high = table(&[(0, 65_543), (1, 7), (2, u32::MAX)]);
+    assert_eq!(find_session(7, 0x0007, &high), 0x02_01_00);
+    assert_eq!(find_session(65_543, 0x0007, &high), 0x01_00_00);
+    assert_eq!(find_session(u32::MAX, 0x0007, &high), 0x03_02_00);
+}
+
+/// FF alone, whatever could be found.
+#[test]
+fn lookup_refused() {
+    let sevens = [7; 80];
+    assert_eq!(find_session(7, 0xFFFF, &sevens[..64]), 0x01_00_00);
+    for length in [0, 1, 4, 60, 63, 65, 68, 80] {
+        assert_eq!(find_session(7, 1, &sevens[..length]), 0xFF, "{length} words");
+        assert_eq!(find_session(7, 0, &sevens[..length]), 0xFF, "{length} words");
+        assert_eq!(find_session(7, u32::MAX, &sevens[..length]), 0xFF, "{length} words");
+    }
+    for rows in [0x1_0000, 0x1_0001, 0x2_0000, 0x8000_0000, 0x8000_FFFF, u32::MAX] {
+        assert_eq!(find_session(7, rows, &sevens[..64]), 0xFF, "rows {rows:#X}");
+    }
+}
+
+/// Three sessions, of which the second is closed: its row is visited no more, until the next Open takes it.
+#[test]
+fn lookup_of_sessions() {
+    let mut cabinet = Cabinet::fresh();
+    let sessions = ["/scan/a", "/scan/b", "/scan/c"].map(|name| cabinet.open(3, name));
+    let look_up = |cabinet: &Cabinet, session: u16| {
+        let memory = &cabinet.memory;
+        find_session(u32::from(session), memory.control[ROWS_USED], &memory.table)
+    };
+    let results = sessions.map(|session| look_up(&cabinet, session));
+    assert_eq!(results, [0x01_00_00, 0x02_01_00, 0x03_02_00]);
+    assert_eq!(cabinet.code(&h::close(sessions[1])), 0);
+    let results = sessions.map(|session| look_up(&cabinet, session));
+    assert_eq!(results, [0x01_00_00, 0x02_00_CB, 0x02_02_00]);
+    let fourth = cabinet.open(2, "/flash/cleanup");
+    assert_eq!(look_up(&cabinet, fourth), 0x02_01_00);
+    assert_eq!(look_up(&cabinet, sessions[2]), 0x03_02_00);
+    assert_eq!(look_up(&cabinet, sessions[1]), 0x03_00_CB);
 }

@@ -4,6 +4,7 @@ pub mod breakers;
 pub mod files;
 pub mod generator;
 pub mod histories;
+pub mod lookups;
 pub mod merges;
 pub mod messages;
 pub mod pair;

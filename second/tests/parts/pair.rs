@@ -194,9 +194,16 @@ impl Pair {
     fn fail(&self, step: &Step, what: &str) -> ! {
         let places = 0..self.before.control.len().min(40);
         panic!(
-            "{}, step {}: {what}\n  step: {step}\n  control before: {:?}\n  table before: {:08X?}",
-            self.context, self.steps, &self.before.control[places], self.before.table
+            "{}: {what}\n  step: {step}\n  control before: {:?}\n  table before: {:08X?}",
+            self.place(),
+            &self.before.control[places],
+            self.before.table
         );
+    }
+
+    /// Where the pair is, for reports.
+    pub fn place(&self) -> String {
+        format!("{}, step {}", self.context, self.steps)
     }
 
     fn check(&self, step: &Step, holds: bool, what: &str) {

@@ -5,9 +5,10 @@ use std::collections::BTreeMap;
 /// The rows of the table: the eleven commands by subcommand, then these.
 pub const FRAME: usize = 11;
 pub const OUTCOME: usize = 12;
-pub const SAVE_PART: usize = 13;
-pub const LOAD: usize = 14;
-pub const COMMANDS: [&str; 15] = [
+pub const FIND_SESSION: usize = 13;
+pub const SAVE_PART: usize = 14;
+pub const LOAD: usize = 15;
+pub const COMMANDS: [&str; 16] = [
     "Count",
     "Enumerate",
     "Open",
@@ -21,6 +22,7 @@ pub const COMMANDS: [&str; 15] = [
     "WriteMeta",
     "(frame)",
     "Job outcome",
+    "Find session",
     "Save part",
     "Load",
 ];
@@ -34,7 +36,7 @@ pub const FAULTS: [u8; 10] = [0xE1, 0xE2, 0xE3, 0xE4, 0xE5, 0xE6, 0xE7, 0xE8, 0x
 
 /// Which codes each command may give, by the rules. "(frame)" are messages that reach no subcommand up to 10: too
 /// short or too long (C7), another OEM number (CC), a subcommand over 10 (C1).
-pub const ALLOWED: [&[u8]; 15] = [
+pub const ALLOWED: [&[u8]; 16] = [
     &[0x00, 0xFF, 0xC7],
     &[0x00, 0xFF, 0xC7, 0xCC, 0xC9],
     &[0x00, 0xFF, 0xC7, 0xCC, 0xCB, 0xC0, 0xC4],
@@ -48,6 +50,7 @@ pub const ALLOWED: [&[u8]; 15] = [
     &[0xFF, 0xC7, 0xCC, 0xCB, 0xD5],
     &[0xFF, 0xC7, 0xCC, 0xC1],
     &[0x00, 0xFF, 0xCC, 0xD5],
+    &[0x00, 0xFF, 0xCB],
     &[0x00, 0xFF, 0xC9],
     &[
         0x00, 0xFF, 0xE0, 0xE1, 0xE2, 0xE3, 0xE4, 0xE5, 0xE6, 0xE7, 0xE8, 0xE9, 0xEA,
@@ -153,6 +156,25 @@ pub const SITUATIONS: &[&str] = &[
     "Load: beside a running job",
     "Load: refused for a session that only reads",
     "Load: refused for a session that writes",
+    "Find session: first used row",
+    "Find session: last of 16",
+    "Find session: row 15 alone",
+    "Find session: identifier 0",
+    "Find session: identifier above 65,535",
+    "Find session: repeated identifier",
+    "Find session: unused row with the identifier skipped",
+    "Find session: row that agrees in 16 bits passed",
+    "Find session: row with another word like it passed",
+    "Find session: no row used",
+    "Find session: none of 16",
+    "Find session: in an unused row only",
+    "Find session: agrees in 16 bits only",
+    "Find session: another word agrees only",
+    "Find session: refused for the table",
+    "Find session: refused for the mask",
+    "Find session: refused for both",
+    "Find session: session open in a history",
+    "Find session: session closed in a history",
 ];
 
 /// One situation for every two faults in one file.
