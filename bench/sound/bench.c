@@ -5,7 +5,8 @@
 #include <stdio.h>
 #include <stdlib.h>
 #include <string.h>
-#include <time.h>
+
+#include "../timing.h"
 
 bool sound_words(const uint32_t *control, size_t control_len, const uint32_t *table, size_t table_len, const uint8_t *names, size_t names_len,
                  const uint8_t *committed, size_t committed_len, const uint8_t *staged, size_t staged_len, const uint8_t *image, size_t image_len,
@@ -18,17 +19,6 @@ static uint32_t control[40], table[64];
 static uint8_t names[512], committed[REGIONS], staged[REGIONS], image[16384], hash[64];
 static double times[REPEATS];
 static volatile uint32_t sink;
-
-static double now(void) {
-    struct timespec t;
-    clock_gettime(CLOCK_MONOTONIC, &t);
-    return t.tv_sec * 1e9 + t.tv_nsec;
-}
-
-static int by_value(const void *a, const void *b) {
-    double x = *(const double *)a, y = *(const double *)b;
-    return (x > y) - (x < y);
-}
 
 static bool test(void) { return sound_words(control, 40, table, 64, names, 512, committed, REGIONS, staged, REGIONS, image, 16384, hash, 64); }
 

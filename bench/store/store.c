@@ -6,8 +6,8 @@
 #include <stdio.h>
 #include <stdlib.h>
 #include <string.h>
-#include <time.h>
 
+#include "../timing.h"
 #include "kramsnep.h"
 
 enum { NO_SUCH_PART = 1000, FILE_MOST = 1 << 20, REPEATS = 2001 };
@@ -53,19 +53,6 @@ static uint32_t copy_file(void)
 }
 
 /* ---- Time */
-
-static double now(void)
-{
-    struct timespec t;
-    clock_gettime(CLOCK_MONOTONIC, &t);
-    return (double)t.tv_sec * 1e9 + (double)t.tv_nsec;
-}
-
-static int by_value(const void *a, const void *b)
-{
-    double x = *(const double *)a, y = *(const double *)b;
-    return (x > y) - (x < y);
-}
 
 struct time {
     double least, median;

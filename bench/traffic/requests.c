@@ -4,20 +4,12 @@
 #include <stdio.h>
 #include <stdlib.h>
 #include <string.h>
-#include <time.h>
 
+#include "../timing.h"
 #include "kramsnep.h"
 
 static struct kramsnep_memory memory;
 static uint8_t answer[KRAMSNEP_ANSWER_SIZE];
-
-/* The time in nanoseconds, from some start. */
-static double now(void)
-{
-    struct timespec t;
-    clock_gettime(CLOCK_MONOTONIC, &t);
-    return (double)t.tv_sec * 1e9 + (double)t.tv_nsec;
-}
 
 struct run {
     double nanoseconds;
