@@ -10,7 +10,7 @@
 size_t row_by_all(uint32_t identifier, uint32_t rows, const uint32_t *table, size_t table_len);
 size_t row_by_used(uint32_t identifier, uint32_t rows, const uint32_t *table, size_t table_len);
 
-enum { ROWS = 16, ROW_WORDS = 4, WORDS = ROWS * ROW_WORDS, FIRST = 1000, ABSENT = 5, ROUNDS = 201, LOOKUPS = 4096 };
+enum { ROWS = 16, ROW_WORDS = 4, WORDS = ROWS * ROW_WORDS, FIRST = 1000, ABSENT = 5, ROUNDS = 41, LOOKUPS = 1 << 18 };
 
 typedef size_t search(uint32_t, uint32_t, const uint32_t *, size_t);
 
@@ -49,7 +49,7 @@ static void ask(uint32_t identifier)
         asked[i] = identifier;
 }
 
-/* Each time another used row, in an order that no branch predictor learns. */
+/* Used rows in a random order, which is too long for a branch predictor to learn. */
 static void ask_any(uint32_t rows)
 {
     uint32_t state = 1;
@@ -82,6 +82,9 @@ int main(void)
     for (uint32_t row = 0; row < ROWS; row++)
         table[row * ROW_WORDS] = FIRST + row;
     agree();
+    ask(FIRST);
+    for (int i = 0; i < ROUNDS; i++) /* so that the processor is awake */
+        (void)(time_of(row_by_all, 1) + time_of(row_by_used, 1));
     for (size_t i = 0; i < sizeof tables / sizeof *tables; i++) {
         ask(FIRST + tables[i].first);
         measure(tables[i].used, "found first", tables[i].rows);
