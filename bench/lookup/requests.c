@@ -85,7 +85,7 @@ static double time_of(uint32_t (*call)(void))
     return took / REQUESTS;
 }
 
-static void measure(unsigned sessions, const char *what, uint8_t code)
+static void measure(unsigned sessions, const char *command, const char *which, uint8_t code)
 {
     double old[ROUNDS], new[ROUNDS];
     if (KRAMSNEP_CODE(before()) != code || before() != after())
@@ -96,8 +96,19 @@ static void measure(unsigned sessions, const char *what, uint8_t code)
     }
     qsort(old, ROUNDS, sizeof *old, by_value);
     qsort(new, ROUNDS, sizeof *new, by_value);
-    printf("%2u sessions, %-34s before %6.0f (%6.0f) ns, after %6.0f (%6.0f) ns, %4.2f times (medians), %4.2f (least)\n", sessions, what, old[ROUNDS / 2], old[0],
-           new[ROUNDS / 2], new[0], new[ROUNDS / 2] / old[ROUNDS / 2], new[0] / old[0]);
+    printf("%2u sessions, %-11s of %-9s before %6.0f (%6.0f) ns, after %6.0f (%6.0f) ns, %4.2f times (medians), %4.2f (least)\n", sessions, command, which,
+           old[ROUNDS / 2], old[0], new[ROUNDS / 2], new[0], new[ROUNDS / 2] / old[ROUNDS / 2], new[0] / old[0]);
+}
+
+/* The command on the first session or its name, on the last, and on one that there is not. */
+static void measure_each(unsigned sessions, const char *command, void (*make_for)(unsigned))
+{
+    make_for(0);
+    measure(sessions, command, "the first", KRAMSNEP_SUCCESS);
+    make_for(sessions - 1);
+    measure(sessions, command, "the last", KRAMSNEP_SUCCESS);
+    make_for(1000);
+    measure(sessions, command, "none, CB", KRAMSNEP_NOT_FOUND);
 }
 
 int main(void)
@@ -105,17 +116,7 @@ int main(void)
     static const unsigned counts[] = {1, 8, 16};
     for (size_t i = 0; i < sizeof counts / sizeof *counts; i++) {
         open_sessions(counts[i]);
-        make_session_stat(0);
-        measure(counts[i], "SessionStat of the first", KRAMSNEP_SUCCESS);
-        make_session_stat(counts[i] - 1);
-        measure(counts[i], "SessionStat of the last", KRAMSNEP_SUCCESS);
-        make_session_stat(1000);
-        measure(counts[i], "SessionStat of none, CB", KRAMSNEP_NOT_FOUND);
-        make_stat(0);
-        measure(counts[i], "Stat of the first name", KRAMSNEP_SUCCESS);
-        make_stat(counts[i] - 1);
-        measure(counts[i], "Stat of the last name", KRAMSNEP_SUCCESS);
-        make_stat(1000);
-        measure(counts[i], "Stat of no name, CB", KRAMSNEP_NOT_FOUND);
+        measure_each(counts[i], "SessionStat", make_session_stat);
+        measure_each(counts[i], "Stat", make_stat);
     }
 }

@@ -6,15 +6,16 @@
 #include <stdlib.h>
 
 #include "../timing.h"
+#include "kramsnep.h"
 
 size_t row_by_all(uint32_t identifier, uint32_t rows, const uint32_t *table, size_t table_len);
 size_t row_by_used(uint32_t identifier, uint32_t rows, const uint32_t *table, size_t table_len);
 
-enum { ROWS = 16, ROW_WORDS = 4, WORDS = ROWS * ROW_WORDS, FIRST = 1000, ABSENT = 5, ROUNDS = 41, LOOKUPS = 1 << 18 };
+enum { FIRST = 1000, ABSENT = 5, ROUNDS = 41, LOOKUPS = 1 << 18 };
 
 typedef size_t search(uint32_t, uint32_t, const uint32_t *, size_t);
 
-static uint32_t table[WORDS];
+static uint32_t table[KRAMSNEP_TABLE_WORDS];
 static uint32_t asked[LOOKUPS];
 static volatile size_t sink;
 
@@ -24,7 +25,7 @@ static double time_of(search *by, uint32_t rows)
     size_t sum = 0;
     double begin = now();
     for (int i = 0; i < LOOKUPS; i++)
-        sum += by(asked[i], rows, table, WORDS);
+        sum += by(asked[i], rows, table, KRAMSNEP_TABLE_WORDS);
     double took = now() - begin;
     sink = sum;
     return took / LOOKUPS;
@@ -55,7 +56,7 @@ static void ask_any(uint32_t rows)
     uint32_t state = 1;
     for (int i = 0; i < LOOKUPS;) {
         state = state * 1664525u + 1013904223u;
-        uint32_t row = (state >> 16) % ROWS;
+        uint32_t row = (state >> 16) % KRAMSNEP_ROWS;
         if ((rows >> row & 1u) != 0)
             asked[i++] = FIRST + row;
     }
@@ -63,9 +64,9 @@ static void ask_any(uint32_t rows)
 
 static void agree(void)
 {
-    for (uint32_t rows = 0; rows < 1u << ROWS; rows++)
-        for (uint32_t identifier = FIRST; identifier <= FIRST + ROWS; identifier++)
-            if (row_by_all(identifier, rows, table, WORDS) != row_by_used(identifier, rows, table, WORDS)) {
+    for (uint32_t rows = 0; rows < 1u << KRAMSNEP_ROWS; rows++)
+        for (uint32_t identifier = FIRST; identifier <= FIRST + KRAMSNEP_ROWS; identifier++)
+            if (row_by_all(identifier, rows, table, KRAMSNEP_TABLE_WORDS) != row_by_used(identifier, rows, table, KRAMSNEP_TABLE_WORDS)) {
                 fprintf(stderr, "rows: identifier %u, mask %#x: the searches differ\n", identifier, rows);
                 exit(1);
             }
@@ -79,8 +80,8 @@ int main(void)
         uint32_t first, last;
     } tables[] = {{"1 used, row 0", 0x0001, 0, 0}, {"1 used, row 15", 0x8000, 15, 15}, {"8 used, rows 0 to 7", 0x00FF, 0, 7}, {"8 used, every other", 0xAAAA, 1, 15},
                   {"16 used", 0xFFFF, 0, 15}};
-    for (uint32_t row = 0; row < ROWS; row++)
-        table[row * ROW_WORDS] = FIRST + row;
+    for (uint32_t row = 0; row < KRAMSNEP_ROWS; row++)
+        table[row * KRAMSNEP_ROW_WORDS] = FIRST + row;
     agree();
     ask(FIRST);
     for (int i = 0; i < ROUNDS; i++) /* so that the processor is awake */

@@ -19,7 +19,7 @@ cp "$here/linear.txt" "$copy/crates/linear/src/lib.rt"
 cp "$here/linear_proof.txt" "$copy/crates/linear/proofs/find_linear/Proof.antt"
 echo "linear: protocol state lookup" >>"$copy/crates.txt"
 (cd "$copy" && rt staticlib linear >"$copy/staticlib.log" 2>&1) || { tail -n 40 "$copy/staticlib.log" >&2; exit 1; }
-${CC:-cc} -O2 "$here/rows.c" "$copy/target/staticlib/liblinear.a" -o "$copy/rows"
+${CC:-cc} -O2 -I"$root/include" "$here/rows.c" "$copy/target/staticlib/liblinear.a" -o "$copy/rows"
 "$copy/rows"
 [ -n "$before" ] || exit 0
 (cd "$copy" && rt staticlib capi >"$copy/staticlib.log" 2>&1) || { tail -n 40 "$copy/staticlib.log" >&2; exit 1; }

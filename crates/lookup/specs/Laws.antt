@@ -24,12 +24,10 @@ use Rattle.state.specs.State.{State, Rows, Row, inSessions, withRows, withNames
 use Rattle.state.specs.Words.{fresh}
 use Rattle.state.specs.Lent.{TableLent}
 use Rattle.state.specs.declared.mask.Found.{Found}
-use Rattle.state.specs.declared.mask.Found.the-variants.{At}
 use Rattle.state.specs.Answers.{optionOf}
 use Rattle.state.specs.declared.row.Wanted.{Wanted}
 use Rattle.state.specs.declared.row.Wanted.the-variants.{Id}
 use Rattle.rules.specs.Session.{matches, rowFound}
-use Rattle.rules.specs.Searches.{found-live}
 use Rattle.visits.specs.Visits.{rowsBehind, visited, Search, searched, lookedBy, tableFits, lookedUp}
 use Rattle.visits.specs.Theorems.{looked-by}
 use Rattle.lookup.specs.declared.RowSearch.{RowSearch}
@@ -121,9 +119,6 @@ module _ (id rows : ℕ) (table : List ℕ) (x : RowSearch) (looked : searchOf x
   pub looked-search : (found : Found) → x .row ≡ found → tableFits rows table ≡ true → lookedBy (optionOf found) (x .visits) ≡ lookedUp id rows table
   looked-search found p fits =
       ap (λ (f : Found). lookedBy (optionOf f) (x .visits)) (sym p) ∙ ap (λ (y : Search). lookedBy (y .row) (y .visits)) looked ∙ sym (looked-by id rows table fits)
-
-  pub looked-low : (r : ℕ) → x .row ≡ At r → r < rowCount
-  looked-low r p = found-live (Id id) (withRows rows table fresh) r (sym (ap (λ (y : Search). y .row) looked) ∙ ap optionOf p) .0
 
 -- ---- equal lists, byte by byte
 -- two lists agree at i

@@ -18,7 +18,7 @@ use Rattle.state.specs.Words.{fresh}
 use Rattle.rules.specs.Session.{rowFound}
 use Rattle.rules.specs.Searches.{found-live, named-slot}
 use Rattle.rules.specs.Lookup.{slotNamed, freeRowIn, freeSlotIn}
-use Rattle.visits.specs.Visits.{Search, Looked}
+use Rattle.visits.specs.Visits.{Search, searched, Looked}
 use Rattle.lookup.specs.declared.RowSearch.{RowSearch}
 use Rattle.lookup.specs.declared.Lookup.{Lookup}
 
@@ -37,6 +37,10 @@ lookupOf x = record { code = x .code .0; row = x .row; visits = x .visits }
 -- x is the row wanted, in every state with this mask of rows and this session table
 pub record FoundRow (x : Found) (w : Wanted) (rows : ℕ) (table : List ℕ) : Type 0 where
   pub row-found : (s : State) → optionOf x ≡ rowFound w (withRows rows table s)
+
+-- the row of a search is the one wanted
+pub searched-row : {x : RowSearch} {w : Wanted} {rows : ℕ} {table : List ℕ} → ((s : State) → searchOf x ≡ searched w (withRows rows table s)) → FoundRow (x .row) w rows table
+searched-row e = record { row-found = λ (s : State). ap (λ (y : Search). y .row) (e s) }
 
 -- x is the slot that holds the name n, in every state with this mask of slots and these names
 pub record FoundName (x : Found) (n : List ℕ) (slots : ℕ) (names : List ℕ) : Type 0 where

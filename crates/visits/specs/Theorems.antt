@@ -93,7 +93,7 @@ looked-acts id t c s g h =
     go (some r) e = refl
     go none e = absurd (let z : _≡_ {A = ℕ} notFound success = e in omega arith)
 
--- FF where there is no table, and only there
+-- FF where there is no table
 pub looked-nothing : (id m : ℕ) (t : List ℕ) → tableFits m t ≡ false → lookedUp id m t ≡ notLooked
 unfolding lookedUp
 looked-nothing id m t e = rw e
@@ -103,33 +103,42 @@ pub looked-by : (id m : ℕ) (t : List ℕ) → tableFits m t ≡ true → looke
 unfolding lookedUp
 looked-by id m t e = rw e
 
-pub looked-something : (id m : ℕ) (t : List ℕ) → tableFits m t ≡ true → lookedUp id m t .code ≢ notSound
-looked-something id m t e h = go (rowFound (Id id) (withRows m t fresh)) (sym (ap (λ (x : Looked). x .code) (looked-by id m t e)) ∙ h)
+-- what holds of FF, of a row that is found, and of CB, holds of every lookup
+looked-cases : (P : Looked → Type 0) (id m : ℕ) (t : List ℕ)
+    → (tableFits m t ≡ false → P notLooked)
+    → ((r : ℕ) → rowFound (Id id) (withRows m t fresh) ≡ some r → P (lookedBy (some r) (visited (Id id) (withRows m t fresh))))
+    → P (lookedBy none (visited (Id id) (withRows m t fresh)))
+    → P (lookedUp id m t)
+looked-cases P id m t refused found absent = fits (tableFits m t) refl
   where
-    go : (o : Option ℕ) → lookedBy o (visited (Id id) (withRows m t fresh)) .code ≡ notSound → ⊥
-    go (some r) e = let z : _≡_ {A = ℕ} success notSound = e in omega arith
-    go none e = let z : _≡_ {A = ℕ} notFound notSound = e in omega arith
+    at : (o : Option ℕ) → rowFound (Id id) (withRows m t fresh) ≡ o → P (lookedBy o (visited (Id id) (withRows m t fresh)))
+    at (some r) e = found r e
+    at none e = absent
+
+    fits : (b : Bool) → tableFits m t ≡ b → P (lookedUp id m t)
+    fits true e = subst P (sym (looked-by id m t e)) (at (rowFound (Id id) (withRows m t fresh)) refl)
+    fits false e = subst P (sym (looked-nothing id m t e)) (refused e)
+
+-- no code is another
+differ : (a b : ℕ) {A : Type 0} → a < b → a ≡ b → A
+differ a b l e = absurd (omega arith)
+
+-- FF only where there is no table
+pub nothing-only : (id m : ℕ) (t : List ℕ) → lookedUp id m t .code ≡ notSound → tableFits m t ≡ false
+nothing-only id m t =
+    looked-cases (λ (x : Looked). x .code ≡ notSound → tableFits m t ≡ false) id m t
+    (λ (e : tableFits m t ≡ false) (h : notLooked .code ≡ notSound). e)
+    (λ (r : ℕ) (e : rowFound (Id id) (withRows m t fresh) ≡ some r). differ success notSound (omega arith))
+    (differ notFound notSound (omega arith))
 
 -- its row is one of the table, and its visits are no more than the rows
 pub looked-small : (id m : ℕ) (t : List ℕ) → (lookedUp id m t .row < rowCount) × (lookedUp id m t .visits ≤ rowCount)
-looked-small id m t = fits (tableFits m t) refl
-  where
-    s : State
-    s = withRows m t fresh
-
-    Small : Looked → Type 0
-    Small x = (x .row < rowCount) × (x .visits ≤ rowCount)
-
-    few : visited (Id id) s ≤ rowCount
-    few = omega (arith, visited-most (Id id) s, ones-most rowCount m)
-
-    at : (o : Option ℕ) → rowFound (Id id) s ≡ o → Small (lookedBy o (visited (Id id) s))
-    at (some r) e = (found-live (Id id) s r e .0, few)
-    at none e = (omega arith, few)
-
-    fits : (b : Bool) → tableFits m t ≡ b → Small (lookedUp id m t)
-    fits true e = subst Small (sym (looked-by id m t e)) (at (rowFound (Id id) s) refl)
-    fits false e = subst Small (sym (looked-nothing id m t e)) (omega arith, omega arith)
+looked-small id m t =
+    let few : visited (Id id) (withRows m t fresh) ≤ rowCount = omega (arith, visited-most (Id id) (withRows m t fresh), ones-most rowCount m) in
+    looked-cases (λ (x : Looked). (x .row < rowCount) × (x .visits ≤ rowCount)) id m t
+    (λ (e : tableFits m t ≡ false). (omega arith, omega arith))
+    (λ (r : ℕ) (e : rowFound (Id id) (withRows m t fresh) ≡ some r). (found-live (Id id) (withRows m t fresh) r e .0, few))
+    (omega arith, few)
 
 -- ---- in words of the table, whatever it holds
 -- row r is used and has the identifier: the whole first word of the row counts
@@ -158,13 +167,8 @@ found-first id m t r e =
 
 -- 00 gives the lowest row that is used and has the identifier, of any mask and any table (rule 21.22)
 pub looked-first : (id m : ℕ) (t : List ℕ) → lookedUp id m t .code ≡ success → First id m t (lookedUp id m t .row)
-looked-first id m t h = fits (tableFits m t) refl
-  where
-    at : (o : Option ℕ) → rowFound (Id id) (withRows m t fresh) ≡ o → tableFits m t ≡ true → lookedBy o (visited (Id id) (withRows m t fresh)) .code ≡ success → First id m t (lookedUp id m t .row)
-    at (some r) p e q =
-        subst (First id m t) (sym (ap (λ (x : Looked). x .row) (looked-by id m t e) ∙ ap (λ (o : Option ℕ). lookedBy o (visited (Id id) (withRows m t fresh)) .row) p)) (found-first id m t r p)
-    at none p e q = absurd (let z : _≡_ {A = ℕ} notFound success = q in omega arith)
-
-    fits : (b : Bool) → tableFits m t ≡ b → First id m t (lookedUp id m t .row)
-    fits true e = at (rowFound (Id id) (withRows m t fresh)) refl e (sym (ap (λ (x : Looked). x .code) (looked-by id m t e)) ∙ h)
-    fits false e = absurd (let z : _≡_ {A = ℕ} notSound success = sym (ap (λ (x : Looked). x .code) (looked-nothing id m t e)) ∙ h in omega arith)
+looked-first id m t =
+    looked-cases (λ (x : Looked). x .code ≡ success → First id m t (x .row)) id m t
+    (λ (e : tableFits m t ≡ false) (h : notSound ≡ success). differ success notSound (omega arith) (sym h))
+    (λ (r : ℕ) (e : rowFound (Id id) (withRows m t fresh) ≡ some r) (h : success ≡ success). found-first id m t r e)
+    (λ (h : notFound ≡ success). differ success notFound (omega arith) (sym h))

@@ -7,7 +7,8 @@ use Rattle.state.specs.Words.{fresh}
 use Rattle.state.specs.declared.mask.Found.the-variants.{At, Nothing}
 use Rattle.visits.specs.Visits.{tableFits}
 use Rattle.visits.specs.Theorems.{looked-nothing}
-use Rattle.lookup.specs.Laws.{table-lent, looked-search, looked-low}
+use Rattle.lookup.specs.Search.{searched-row, row-low}
+use Rattle.lookup.specs.Laws.{table-lent, looked-search}
 use borrow.Author.Needs.{needs}
 use Rattle.lookup.proofs.find_session.Statement.{statement}
 use Rattle.lookup.proofs.find_session.Tie as tie
@@ -43,10 +44,7 @@ enum-known-found : tie.Need-enum-known-found
 enum-known-found c = search needs
 
 cast-t14 : tie.Need-cast-t14
-cast-t14 c =
-    let a = entry (found c) .args in
-    let low = looked-low (a .identifier) (a .rows) (a .table .now) (found c .search-rows .result) (found c .search-rows .ensures fresh) (c .before .found .given .0 .0) (c .before .found .given .1) in
-    omega (arith, low)
+cast-t14 c = let low = row-low (searched-row (found c .search-rows .ensures)) (c .before .found .given .1) in omega (arith, low)
 
 enum-told : tie.Need-enum-told
 enum-told c = search needs
