@@ -17,6 +17,7 @@ use Rattle.laws.specs.Ranges.{block, getD-part}
 use Rattle.laws.specs.Masks.{ones-more, ones-mono, ones-in}
 use Rattle.laws.specs.SetBits.{ones-most}
 use Rattle.protocol.specs.Numbers.{rowCount, rowWords, sixteenBits, success, notFound, notSound}
+use Rattle.protocol.specs.Frame.{refused}
 use Rattle.state.specs.State.{State, withRows}
 use Rattle.state.specs.Words.{fresh, ident, Live}
 use Rattle.state.specs.Facts.{Sound}
@@ -62,6 +63,10 @@ pub used-are : (s : State) → s .sessions .rows < sixteenBits → usedBelow row
 used-are s h = ones-in rowCount (s .sessions .rows) h
 
 -- ---- the lookup
+-- no code is another
+differ : (a b : ℕ) {A : Type 0} → a < b → a ≡ b → A
+differ a b l e = absurd (omega arith)
+
 -- in a sound state it is the search that every command on a session makes
 pub looked-is : (id : ℕ) (s : State) → Sound s → lookedUp id (s .sessions .rows) (s .sessions .table) ≡ lookedBy (rowFound (Id id) s) (visited (Id id) s)
 unfolding lookedUp rowFound visited
@@ -91,7 +96,17 @@ looked-acts id t c s g h =
   where
     go : (o : Option ℕ) → lookedBy o (visited (Id id) s) .code ≡ success → onFound o (Id id) t c s ≡ onRow (lookedBy o (visited (Id id) s) .row) t c s
     go (some r) e = refl
-    go none e = absurd (let z : _≡_ {A = ℕ} notFound success = e in omega arith)
+    go none e = differ success notFound (omega arith) (sym e)
+
+-- WHERE IT SAYS CB, EVERY COMMAND WITH THIS IDENTIFIER IS REFUSED, with CB, and changes nothing (rule 21.22)
+pub looked-refuses : (id t : ℕ) (c : Command) (s : State) → Sound s → lookedUp id (s .sessions .rows) (s .sessions .table) .code ≡ notFound
+    → onSession (Id id) t c s ≡ (refused notFound, s)
+unfolding onSession
+looked-refuses id t c s g h = go (rowFound (Id id) s) (sym (ap (λ (x : Looked). x .code) (looked-is id s g)) ∙ h)
+  where
+    go : (o : Option ℕ) → lookedBy o (visited (Id id) s) .code ≡ notFound → onFound o (Id id) t c s ≡ (refused notFound, s)
+    go none e = refl
+    go (some r) e = differ success notFound (omega arith) e
 
 -- FF where there is no table
 pub looked-nothing : (id m : ℕ) (t : List ℕ) → tableFits m t ≡ false → lookedUp id m t ≡ notLooked
@@ -109,19 +124,15 @@ looked-cases : (P : Looked → Type 0) (id m : ℕ) (t : List ℕ)
     → ((r : ℕ) → rowFound (Id id) (withRows m t fresh) ≡ some r → P (lookedBy (some r) (visited (Id id) (withRows m t fresh))))
     → P (lookedBy none (visited (Id id) (withRows m t fresh)))
     → P (lookedUp id m t)
-looked-cases P id m t refused found absent = fits (tableFits m t) refl
+looked-cases P id m t no-table row none-there = fits (tableFits m t) refl
   where
     at : (o : Option ℕ) → rowFound (Id id) (withRows m t fresh) ≡ o → P (lookedBy o (visited (Id id) (withRows m t fresh)))
-    at (some r) e = found r e
-    at none e = absent
+    at (some r) e = row r e
+    at none e = none-there
 
     fits : (b : Bool) → tableFits m t ≡ b → P (lookedUp id m t)
     fits true e = subst P (sym (looked-by id m t e)) (at (rowFound (Id id) (withRows m t fresh)) refl)
-    fits false e = subst P (sym (looked-nothing id m t e)) (refused e)
-
--- no code is another
-differ : (a b : ℕ) {A : Type 0} → a < b → a ≡ b → A
-differ a b l e = absurd (omega arith)
+    fits false e = subst P (sym (looked-nothing id m t e)) (no-table e)
 
 -- FF only where there is no table
 pub nothing-only : (id m : ℕ) (t : List ℕ) → lookedUp id m t .code ≡ notSound → tableFits m t ≡ false
