@@ -92,6 +92,35 @@ longData = 0xE9
 abbrev pub manyBlobs : ℕ
 manyBlobs = 0xEA
 
+-- ---- Completion codes of a flash configuration (sections 26 and 27)
+-- no text of the grammar goes on so, or the text is cut (rule 26.9)
+abbrev pub badText : ℕ
+badText = 0xF1
+
+-- a number, where a value is due (rule 26.8)
+abbrev pub numberThere : ℕ
+numberThere = 0xF2
+
+-- true, where a value is due (rule 26.8)
+abbrev pub trueThere : ℕ
+trueThere = 0xF3
+
+-- false, where a value is due (rule 26.8)
+abbrev pub falseThere : ℕ
+falseThere = 0xF4
+
+-- null, where a value is due (rule 26.8)
+abbrev pub nullThere : ℕ
+nullThere = 0xF5
+
+-- a list or an object in the eighth level (rule 26.8)
+abbrev pub tooDeep : ℕ
+tooDeep = 0xF6
+
+-- a text of the grammar that offends against the profile (rule 28.3)
+abbrev pub offProfile : ℕ
+offProfile = 0xF7
+
 -- ---- Message frame (section 1)
 -- the OEM number 49871, lowest byte first (rule 1.3)
 abbrev pub oem : List ℕ
