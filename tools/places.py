@@ -32,13 +32,16 @@ import sys
 ROOT = pathlib.Path(__file__).resolve().parent.parent
 WIDTH = 120
 
+# In the proof of functions that call one another the places of each stand in a module of its own, `FUNCTION-lts`, over the measure's bound t.
 ABBREVIATION = re.compile(
-    r"^abbrev (?P<name>\S+) : tie\.(?P<source>\S+)(?P<args>[^→\n]*) → tie\.(?P<target>\S+)(?P=args)\n"
-    r"(?P=name) (?P<variable>\S+) =(?P<body>[^\n]*\n(?:[ \t]+\S[^\n]*\n)*)",
+    r"^abbrev (?P<name>\S+) : (?P<bound>\(t : ℕ\) → )?(?P<module>[\w-]+)\.(?P<source>\S+)(?P<args>[^→\n]*) → (?P=module)\.(?P<target>\S+)(?P=args)\n"
+    r"(?P=name) (?:t )?(?P<variable>\S+) =(?P<body>[^\n]*\n(?:[ \t]+\S[^\n]*\n)*)",
     re.M,
 )
 
-ANSWER = re.compile(r"^(\S+) : tie\.Need-\1\b[^\n]*\n(?:unfolding [^\n]*\n)?(\1 [^\n]*\n(?:[ \t)}][^\n]*\n)*)", re.M)
+ANSWER = re.compile(
+    r"^(?P<name>\S+) : (?:\(t : ℕ\) → )?(?P<module>[\w-]+)\.Need-(?P<need>[\w·-]+)\b[^\n]*\n(?:unfolding [^\n]*\n)?(?P<clause>(?P=name) [^\n]*\n(?:[ \t)}][^\n]*\n)*)", re.M
+)
 
 
 class Places:
@@ -80,22 +83,26 @@ def body(variable, count):
     return " " + line + "\n" if len(lines) == 1 else "\n" + "".join(f"    {l}\n" for l in lines)
 
 
-def starts(text, places, name):
+def starts(text, places, module, name):
     """The places of the needs that apply the name to their own `c`."""
     found = set()
-    for need, clause in ANSWER.findall(text + "\n"):
-        variable = clause.split()[1]
-        if need in places.need and re.search(rf"(?<![^\s(]){re.escape(name)} {re.escape(variable)}(?![^\s),;])", clause):
-            found.add(places.need[need])
+    for m in ANSWER.finditer(text + "\n"):
+        words = m["clause"].split()
+        bound, variable = ("t ", words[2]) if words[1] == "t" else ("", words[1])
+        if m["module"] == module and m["need"] in places.need and re.search(rf"(?<![^\s(]){re.escape(name)} {bound}{re.escape(variable)}(?![^\s),;])", m["clause"]):
+            found.add(places.need[m["need"]])
     return found
 
 
-def rewritten(text, places, complain):
+def rewritten(text, modules, complain):
     """The proof file with each body computed."""
 
     def one(m):
-        source, target = m["source"], m["target"]
-        used = starts(text, places, m["name"])
+        source, target, places = m["source"], m["target"], modules.get(m["module"])
+        if places is None:
+            complain(f"`{m['name']}`: no places of {m['module']}")
+            return m[0]
+        used = starts(text, places, m["module"], m["name"])
         if len(used) > 1:
             complain(f"`{m['name']}` is applied at {' and '.join(sorted(used))}: one name for each")
             return m[0]
@@ -109,15 +116,20 @@ def rewritten(text, places, complain):
         if count is None:
             complain(f"`{m['name']}`: {source} does not lead to {target}")
             return m[0]
-        signature = f"abbrev {m['name']} : tie.{source}{m['args']} → tie.{target}{m['args']}\n"
-        return f"{signature}{m['name']} {m['variable']} ={body(m['variable'], count)}"
+        module, bound = m["module"], m["bound"] or ""
+        signature = f"abbrev {m['name']} : {bound}{module}.{source}{m['args']} → {module}.{target}{m['args']}\n"
+        return f"{signature}{m['name']} {'t ' if bound else ''}{m['variable']} ={body(m['variable'], count)}"
 
     return ABBREVIATION.sub(one, text)
 
 
-def lts_of(goals, crate, proofs):
-    """The module of the places of the function whose proof file stands in crates/CRATE/proofs/PROOFS."""
-    return next(iter(goals.glob(f"Rattle.{crate}.proofs/proofs/{proofs}/Lts.antt")), None)
+def modules_of(goals, crate, proofs):
+    """The places of the functions whose proof file stands in crates/CRATE/proofs/PROOFS, by the module that the file calls them by."""
+    found = {}
+    for file in sorted(goals.glob(f"Rattle.{crate}.proofs/proofs/{proofs}/Lts*.antt")):
+        function = file.stem.removeprefix("Lts").removeprefix("-")
+        found[f"{function}-lts" if function else "tie"] = Places(file.read_text())
+    return found
 
 
 def print_list(function, places):
@@ -127,10 +139,10 @@ def print_list(function, places):
         print(f"{function}: Need-{need} at {place}")
 
 
-def treat(file, text, places, check):
+def treat(file, text, modules, check):
     """One proof file, computed anew or compared; how many things were wrong."""
     complaints = []
-    new = rewritten(text, places, complaints.append)
+    new = rewritten(text, modules, complaints.append)
     if new != text and check:
         complaints.append("not as computed")
     elif new != text:
@@ -163,14 +175,15 @@ def main():
         text = file.read_text()
         if not (asked.list or ABBREVIATION.search(text)):
             continue
-        lts = lts_of(goals, asked.crate, file.parent.relative_to(proofs))
-        if lts is None:
+        modules = modules_of(goals, asked.crate, file.parent.relative_to(proofs))
+        if not modules:
             print(f"{file.relative_to(ROOT)}: no places of this function below {goals}: see `rt goals {asked.crate}`")
             bad += 1
         elif asked.list:
-            print_list(file.parent.name, Places(lts.read_text()))
+            for module, places in modules.items():
+                print_list(file.parent.name if module == "tie" else module.removesuffix("-lts"), places)
         else:
-            bad += treat(file, text, Places(lts.read_text()), asked.check)
+            bad += treat(file, text, modules, asked.check)
     sys.exit(1 if bad else 0)
 
 
