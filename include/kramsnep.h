@@ -2,35 +2,37 @@
  * SPDX-License-Identifier: Apache-2.0
  *
  * The library answers the requests of the IPMI blob protocol: a store of 16 named blobs, and a firmware update by image, hash, verify, update
- * and cleanup. The store can be saved as a file and loaded from one. It is proved: for every input the result, and every word and byte of the
- * memory lent to it, are those of its rules. This page says how to call it from C, and has every number that a client of the protocol needs;
- * docs/PROTOCOL.md has the rules.
+ * and cleanup. The store can be saved as a file and loaded from one, and a flash configuration (JSON) can be read. It is proved: for every input the
+ * result, and every word and byte of the memory lent to it, are those of its rules. This page says how to call it from C, and has every number that
+ * a client of the protocol needs; docs/PROTOCOL.md has the rules.
  *
  * In this order: version; messages (frame, CRC, subcommands and their fields, flags, states, names, completion codes, times, what a client does);
- * the memory to lend and what stands in it; the five functions, two of them with the form of a store file; the memory as one struct. The five
- * functions are proved; the inline functions of this page are plain C, tested and not proved. It needs C99 or later, or C++11 or later, and a machine
- * that the archive was made for (x86-64).
+ * the memory to lend and what stands in it; the six functions, with the form of a store file and the fields of a configuration; the memory as one
+ * struct. The six functions are proved; the inline functions of this page are plain C, tested and not proved. It needs C99 or later, or C++11 or
+ * later, and a machine that the archive was made for (x86-64).
  *
  * Memory. The caller owns all memory and lends it for the time of a call. The library allocates nothing, has no global state and keeps no
  * pointer. Lend the same memory at each call, and write nothing into it in between: it is the whole state. (The answer buffer, the buffer for a part
- * of a store file, and such a file are no part of it.)
+ * of a store file, such a file, a configuration and its fields are no part of it.)
  * Zero all of it once, at start (memset, or static storage): all zeros is the fresh state, with no blob, no session and no update under way.
  * Nothing in it is a pointer, so it may be copied or saved as a whole; with memory that was saved the clock must go on from where it was. To keep
  * the store alone, in a form that other programs read too, see kramsnep_save_part.
  *
  * - No pointer may be null, not even one to a length of 0.
- * - Each length is the true number of elements behind its pointer: 32-bit words for control and table, bytes for all else.
- * - control and table are aligned as uint32_t; the others may stand anywhere.
- * - No two of the buffers may overlap; the request, or the file to load, may not stand in any of the others.
+ * - Each length is the true number of elements behind its pointer: 32-bit words for control and table, size_t for the fields of a
+ *   configuration, bytes for all else.
+ * - control and table are aligned as uint32_t, such fields as size_t; the others may stand anywhere.
+ * - No two of the buffers may overlap; the request, the file to load, or the text to read may not stand in any of the others.
  * - Words are uint32_t of the machine. Numbers in messages are little-endian.
  *
  * The library tests at each call that the lent lengths are exact and that the state is sound; if not, the result is KRAMSNEP_NOT_SOUND and
  * nothing is changed. So wrong lengths and damaged memory are refused, but null or dangling pointers and false lengths are not caught.
- * (kramsnep_find_session is lent the session table alone, and tests its length and the mask that goes with it.)
+ * (kramsnep_find_session is lent the session table alone, and tests its length and the mask that goes with it; kramsnep_read_config is lent no
+ * state, and tests the length of the fields.)
  *
  * Threads. Calls on different memory may run at the same time. Calls on the same memory must not: hold a lock, or call from one task.
- * A call does not block and always ends. It needs little stack: less than 3 KB on x86-64, over every subcommand and every part of a store file. Only
- * kramsnep_load needs more, less than 35 KB, whatever the file (measured, not proved).
+ * A call does not block and always ends. It needs little stack: less than 3 KB on x86-64, over every subcommand, every part of a store file, and
+ * configurations of every depth. Only kramsnep_load needs more, less than 35 KB, whatever the file (measured, not proved).
  */
 #ifndef KRAMSNEP_H
 #define KRAMSNEP_H
@@ -44,9 +46,9 @@ extern "C" {
 
 /* ---- Version: semantic. Before 1.0.0 a minor version may change what is here; docs/CHANGELOG.md says what. */
 #define KRAMSNEP_VERSION_MAJOR 0
-#define KRAMSNEP_VERSION_MINOR 4
+#define KRAMSNEP_VERSION_MINOR 5
 #define KRAMSNEP_VERSION_PATCH 0
-#define KRAMSNEP_VERSION "0.4.0"
+#define KRAMSNEP_VERSION "0.5.0"
 
 /* ---- Messages
  *
@@ -218,6 +220,15 @@ static inline uint16_t kramsnep_crc(const uint8_t *bytes, size_t n)
 #define KRAMSNEP_LONG_DATA 0xE9     /* a blob has more than KRAMSNEP_SLOT_SIZE bytes of data */
 #define KRAMSNEP_MANY_BLOBS 0xEA    /* there are more than KRAMSNEP_SLOTS blobs */
 
+/* The codes by which kramsnep_read_config refuses a flash configuration. F2 to F6 are told only where a value may begin. */
+#define KRAMSNEP_BAD_TEXT 0xF1     /* the text cannot go on so, or it ends too early */
+#define KRAMSNEP_NUMBER_THERE 0xF2 /* a value begins with a digit or a minus sign */
+#define KRAMSNEP_TRUE_THERE 0xF3   /* a value begins with true */
+#define KRAMSNEP_FALSE_THERE 0xF4  /* a value begins with false */
+#define KRAMSNEP_NULL_THERE 0xF5   /* a value begins with null */
+#define KRAMSNEP_TOO_DEEP 0xF6     /* a ninth level of brackets */
+#define KRAMSNEP_OFF_PROFILE 0xF7  /* the text has none of these faults, and is no flash configuration */
+
 /* Times, in seconds of the caller's clock. An Open sweeps if the last sweep was KRAMSNEP_SWEEP_EVERY seconds ago or more: it closes the sessions
  * that were not used for more than KRAMSNEP_SESSION_LIFE seconds and have no running job. */
 #define KRAMSNEP_SWEEP_EVERY 60
@@ -302,9 +313,10 @@ static inline uint16_t kramsnep_crc(const uint8_t *bytes, size_t n)
 #define KRAMSNEP_JOB_SUCCEEDED 2
 #define KRAMSNEP_JOB_FAILED 3
 
-/* ---- The five functions */
+/* ---- The six functions */
 
-/* The two halves of a result of kramsnep_respond or kramsnep_save_part: completion code, and length of what was written (0 for a refusal). */
+/* The two halves of a result of kramsnep_respond or kramsnep_save_part: completion code, and length of what was written (0 for a refusal). The first
+ * of them takes a result of any of the functions. */
 #define KRAMSNEP_CODE(result) ((uint8_t)((result) & 0xFFu))
 #define KRAMSNEP_LENGTH(result) ((size_t)((result) >> 8))
 
@@ -434,6 +446,47 @@ uint32_t kramsnep_load(const uint8_t *file, size_t file_len, uint32_t *control, 
  *   KRAMSNEP_NOT_FOUND  no row in use has the identifier; the row is told as 0
  *   KRAMSNEP_NOT_SOUND  the table's length is wrong, or the mask has a bit past the last row; nothing was visited, and the result is this code alone */
 uint32_t kramsnep_find_session(uint32_t identifier, uint32_t rows, const uint32_t *table, size_t table_len);
+
+/* The numbers that show a flash configuration. Entry e (from 0) has KRAMSNEP_ENTRY_FIELDS of them, from place e * KRAMSNEP_ENTRY_FIELDS on; there, at
+ * the places below, is the start of a string in the text, and behind it its length, both in bytes and without the quotes. */
+#define KRAMSNEP_CONFIG_ENTRIES 8
+#define KRAMSNEP_ENTRY_FIELDS 18
+#define KRAMSNEP_CONFIG_FIELDS 144 /* of all entries */
+#define KRAMSNEP_FIELD_BLOB 0
+#define KRAMSNEP_FIELD_HANDLER_TYPE 2
+#define KRAMSNEP_FIELD_HANDLER_PATH 4
+#define KRAMSNEP_FIELD_PREPARATION_TYPE 6
+#define KRAMSNEP_FIELD_PREPARATION_UNIT 8
+#define KRAMSNEP_FIELD_VERIFICATION_TYPE 10
+#define KRAMSNEP_FIELD_VERIFICATION_UNIT 12
+#define KRAMSNEP_FIELD_UPDATE_TYPE 14
+#define KRAMSNEP_FIELD_UPDATE_UNIT 16
+
+/* A result of kramsnep_read_config beside its completion code: the number of entries if that is KRAMSNEP_SUCCESS, 0 if it is KRAMSNEP_NOT_SOUND, else
+ * the place of the fault. */
+#define KRAMSNEP_CONFIG_NUMBER(result) ((uint64_t)(result) >> 8)
+
+/* Reads a flash configuration: the JSON file by which a maker says what is done with each flash image. No state is needed, and none is changed.
+ *
+ * text: the file, of any bytes and any length. It is not changed, and need not end with a zero.
+ * fields: KRAMSNEP_CONFIG_FIELDS places, in which the strings of the entries are shown as above; the places of entries that there are not become 0.
+ *   The unit of a reboot is told as 0, 0. A refusal leaves all of them.
+ *
+ * Of JSON it takes lists, objects and strings, at most 8 levels of brackets deep; a string has printable ASCII alone, and neither a quote nor a
+ * backslash inside. A configuration is, of such texts, a list of at most KRAMSNEP_CONFIG_ENTRIES entries, each an object with blob (a string),
+ * handler (an object with type, which is file, and path, a string) and actions (an object with preparation, verification and update, each an object
+ * with type systemd and unit, a string, or with type reboot alone). Keys stand in any order, each once, and no others are taken.
+ *
+ * The result is the completion code in the lowest byte, and above it the number of entries or the place of the fault, counted in bytes from 0:
+ *   KRAMSNEP_SUCCESS      taken
+ *   KRAMSNEP_NOT_SOUND    fields has another length, whatever the text; the result is this code alone
+ *   KRAMSNEP_BAD_TEXT to KRAMSNEP_TOO_DEEP
+ *                         it is not what is taken of JSON; the place is the first byte with which no such text goes on, or the length if it is cut
+ *   KRAMSNEP_OFF_PROFILE  it is no such list; the place is the first of: a key that is unknown, or there before, or a unit in an action whose first
+ *                         type is reboot; the closing brace of an object that lacks a key; a value that is wrong; a ninth entry
+ *
+ * The time grows with the length of the text, in proportion. */
+uint64_t kramsnep_read_config(const uint8_t *text, size_t text_len, size_t *fields, size_t fields_len);
 
 /* ---- All of it in one place, for callers who keep it so */
 

@@ -4,10 +4,11 @@
 header.py --check    needs a C compiler (CC, or cc); C++ is tried where there is a compiler for it (CXX, or c++)
 
 - It compiles alone, as C99 and as C++11, and twice in one file, without a warning; and so does the handler of docs/HOOKING.md. C++ links its functions as those of C.
-- Its functions are the proved ones, with their parameters in their order. The functions over the struct hand each part of it on under its own length.
+- Its functions are the proved ones, with their parameters in their order and their results. The functions over the struct hand each part of it on under its own length.
 - Each of its numbers is the value of the definition that NUMBERS names for it, in the specs and, where the code has the number too, in the code; no number of the header is
   without a definition, and no number of Numbers.antt is missing that a client needs.
-- The table of requests and responses in its comment is that of Decode.antt and of the replies; so are the numbers in the comments on frame, control block and rows. The longest store file is as long as it says. Names, OEM bytes and version are those of Names.antt, of Numbers.antt and of the
+- The table of requests and responses in its comment is that of Decode.antt and of the replies; so are the numbers in the comments on frame, control block and rows. The longest store file is as long as it says; a flash configuration
+  has the depth, the words and the places of its strings that Grammar.antt, Words.antt and Fields.antt give it. Names, OEM bytes and version are those of Names.antt, of Numbers.antt and of the
   first entry of docs/CHANGELOG.md.
 - kramsnep_crc gives the worked values and what Python's own CRC gives; kramsnep_running_job and the macros with an argument give what the layout of a row and of a result says.
 
@@ -26,9 +27,11 @@ ROOT = pathlib.Path(__file__).resolve().parent.parent
 HEADER = ROOT / "include" / "kramsnep.h"
 PREFIX = "KRAMSNEP_"
 SPECS = ("protocol/specs/Numbers", "protocol/specs/Decode", "protocol/specs/Names", "rules/specs/Messages", "crc/specs/Crc", "capi_control/specs/Words", "capi/specs/Call",
-         "store_file/specs/Messages", "store_file/specs/Saved")
-CODE = ("protocol", "state", "crc", "open_sweep", "capi_control", "capi", "store_file", "store_writer", "run_store")
+         "store_file/specs/Messages", "store_file/specs/Saved", "json/specs/Grammar", "config/specs/Profile", "config/specs/Fields")
+CODE = ("protocol", "state", "crc", "open_sweep", "capi_control", "capi", "store_file", "store_writer", "run_store", "config_profile", "config_reader")
+C_TYPES = {"u8": "uint8_t", "u32": "uint32_t", "u64": "uint64_t", "usize": "size_t"}
 WORDS = "no one two three four five six seven eight nine ten eleven twelve".split()
+ORDINALS = "zeroth first second third fourth fifth sixth seventh eighth ninth tenth eleventh twelfth".split()
 STRICT = ("-Wall", "-Wextra", "-Wpedantic", "-Werror")
 
 # What each number of the header is by the definitions: one or several, all of the same value. A name with a capital letter and `::` is a constant of the code.
@@ -65,6 +68,9 @@ NUMBERS = {
     "WRONG_TYPE": "wrongType, protocol::Code::WRONG_TYPE", "BAD_NUMBER": "badNumber, protocol::Code::BAD_NUMBER", "PAST_END": "pastEnd, protocol::Code::PAST_END",
     "WRONG_BASE": "wrongBase, protocol::Code::WRONG_BASE", "BAD_NAME": "badName, protocol::Code::BAD_NAME", "REPEATED_NAME": "repeatedName, protocol::Code::REPEATED_NAME",
     "LONG_DATA": "longData, protocol::Code::LONG_DATA", "MANY_BLOBS": "manyBlobs, protocol::Code::MANY_BLOBS",
+    "BAD_TEXT": "badText, protocol::Code::BAD_TEXT", "NUMBER_THERE": "numberThere, protocol::Code::NUMBER_THERE", "TRUE_THERE": "trueThere, protocol::Code::TRUE_THERE",
+    "FALSE_THERE": "falseThere, protocol::Code::FALSE_THERE", "NULL_THERE": "nullThere, protocol::Code::NULL_THERE", "TOO_DEEP": "tooDeep, protocol::Code::TOO_DEEP",
+    "OFF_PROFILE": "offProfile, protocol::Code::OFF_PROFILE",
     "SWEEP_EVERY": "sweepEvery, open_sweep::SWEEP_EVERY", "SESSION_LIFE": "sessionLife, open_sweep::SESSION_LIFE",
     "CONTROL_WORDS": "controlSize, capi_control::CONTROL_WORDS", "TABLE_WORDS": "rowCount * rowWords", "NAMES_SIZE": "slotCount * nameSize",
     "COMMITTED_SIZE": "slotCount * slotSize", "STAGED_SIZE": "slotCount * slotSize", "IMAGE_SIZE": "imageSize, state::IMAGE_SIZE", "HASH_SIZE": "hashSize, state::HASH_SIZE",
@@ -82,6 +88,8 @@ NUMBERS = {
     "JOB_FAILED": "failed, state::Status::FAILED", "VERDICT_FAILED": "jobFailed, capi::JOB_FAILED", "VERDICT_GOOD": "jobGood, capi::JOB_GOOD",
     "FILE_BASE": "baseField, store_file::STORE_BASE", "FILE_BLOB": "blobField, store_file::STORE_BLOB", "FILE_BLOB_NAME": "nameField, store_file::BLOB_NAME",
     "FILE_BLOB_DATA": "dataField, store_file::BLOB_DATA", "PART_SIZE": "bufferSize, store_writer::BUFFER_SIZE", "PARTS_MOST": "1 + slotCount, run_store::PARTS_MOST",
+    "CONFIG_ENTRIES": "entryMost, config_profile::ENTRY_MOST", "ENTRY_FIELDS": "fieldCount / entryMost, rowOf.length",
+    "CONFIG_FIELDS": "fieldCount, config_reader::FIELD_COUNT, entryMost * rowOf.length",
 }
 NAMES = {"NAME_BASE": ("base", "protocol::BASE"), "NAME_IMAGE": ("flashName.Image", "protocol::FLASH_IMAGE"), "NAME_HASH": ("flashName.Hash", "protocol::FLASH_HASH"),
          "NAME_VERIFY": ("flashName.Verify", "protocol::FLASH_VERIFY"), "NAME_UPDATE": ("flashName.Update", "protocol::FLASH_UPDATE"),
@@ -92,6 +100,7 @@ NOT_NEEDED = {"sixteenBits": "a bound that soundness tests", "wordLimit": "a bou
 FIELD_NAMES = {"blob": "name", "start": "data", "len": "commit length"}
 FIELD = re.compile(r"little (?P<width>\d) (?P<number>fieldsAt|\(fieldsAt \+ \d+\)) m|getD m (?P<byte>\(fieldsAt \+ \d+\)) 0|withName (?P<name>fieldsAt|\(fieldsAt \+ \d+\)) m"
                    r"|(?<=m\) )(?P<rest>\(fieldsAt \+ \d+\))(?=\))")
+STRINGS = re.compile(r"spanOf \(under (?P<key>\w+) m\)|pairOf (?P<first>\w+) (?P<second>\w+) \(under (?P<object>\w+) (?:m|\(under \w+ m\))\)")
 
 
 # ---- the definitions
@@ -100,7 +109,7 @@ def text_of(path):
 
 
 def value(expression, known):
-    """A sum, a difference or a product of known names and numbers."""
+    """A sum, a difference, a product or a quotient of known names and numbers."""
     named = re.sub(r"(?!len\()\b[A-Za-z]\w*(?:::\w+|\.\w+)*", lambda name: repr(known[name.group()]), expression)
     return eval(named, {"__builtins__": {}, "len": len})
 
@@ -189,8 +198,37 @@ def responses():
             "Stat": stat, "SessionStat": stat}
 
 
+def profile_words():
+    """name -> text of each word of a flash configuration."""
+    return {name: bytes(map(int, said.split(" ∷ "))).decode("ascii") for name, said in re.findall(r"(?m)^(\w+)Word = (\d+(?: ∷ \d+)*) ∷ \[\]$", text_of("config/specs/Words.antt"))}
+
+
+def entry_strings():
+    """The strings that are shown of an entry, in the order of `rowOf`: the key of each, behind the key of the object that has it unless that is the entry. Then how many numbers show one."""
+    text, word = text_of("config/specs/Fields.antt"), profile_words()
+    row = re.search(r"(?m)^rowOf m =\n((?:    .+\n)+)", text).group(1)
+    span = re.search(r"(?m)^spanOf m = (.+) ∷ \[\]$", text).group(1).split(" ∷ ")
+    pair = re.search(r"(?m)^pairOf k l m = (.+)$", text).group(1)
+    rest = re.sub(r"[\s()]", "", STRINGS.sub("one", row))
+    if span != ["spanStart m", "spanLength m"] or pair != "spanOf (under k m) ++ spanOf (under l m)" or not re.fullmatch(r"one(\+\+one)*", rest):
+        sys.exit("Fields.antt: rowOf is no longer one string behind another, each by its start and its length")
+    found = []
+    for one in STRINGS.finditer(row):
+        keys = [[one["key"]]] if one["key"] else [[one["object"], one["first"]], [one["object"], one["second"]]]
+        found += ["_".join(word[key.removesuffix("Word")] for key in names).upper() for names in keys]
+    return found, len(span)
+
+
+def entry_places():
+    """FIELD_NAME as a macro -> the place of that string's start among the numbers of an entry."""
+    strings, width = entry_strings()
+    return {f"FIELD_{name}": width * at for at, name in enumerate(strings)}
+
+
 def definitions():
     known = {**spec_values(), **code_values()}
+    strings, width = entry_strings()
+    known["rowOf.length"] = width * len(strings)
     for name, (_, _, fields) in requests().items():
         known.update(places_and_widths(name, fields))
     for name, fields in responses().items():
@@ -234,6 +272,11 @@ def macros():
     return {name: said for name, said in re.findall(rf"(?m)^#define {PREFIX}(\w+) (.+)$", listed)}
 
 
+def flowing():
+    """The header's text in one line, without the marks at which a comment's lines begin."""
+    return " ".join(HEADER.read_text(encoding="ascii").replace("\n *", "\n").split())
+
+
 def printed(names):
     """name -> value, as a compiled program prints it."""
     body = "\n".join(f'    printf("%ld\\n", (long)({PREFIX}{name}));' for name in names)
@@ -259,29 +302,30 @@ def linked_from(compiler_of_cpp):
     with tempfile.TemporaryDirectory() as name:
         folder = pathlib.Path(name)
         (folder / "stub.c").write_text(STUBS, encoding="ascii")
-        calls = "kramsnep_respond_in(&m, m.names, 0, 0, m.hash) + kramsnep_job_outcome_in(&m, 0) + kramsnep_save_part_in(&m, 0, m.image) + kramsnep_load_in(&m, m.hash, 0) + kramsnep_find_session_in(&m, 0)"
-        (folder / "main.cpp").write_text(f'#include "kramsnep.h"\nint main() {{ static kramsnep_memory m; return (int)({calls}); }}\n', encoding="ascii")
+        calls = "kramsnep_respond_in(&m, m.names, 0, 0, m.hash) + kramsnep_job_outcome_in(&m, 0) + kramsnep_save_part_in(&m, 0, m.image) + kramsnep_load_in(&m, m.hash, 0) + kramsnep_find_session_in(&m, 0) + kramsnep_read_config(m.hash, 1, &n, 1)"
+        (folder / "main.cpp").write_text(f'#include "kramsnep.h"\nint main() {{ static kramsnep_memory m; size_t n = 0; return (int)({calls}); }}\n', encoding="ascii")
         subprocess.run([*compiler(), "-c", f"-I{HEADER.parent}", "stub.c"], cwd=folder, check=True)
         done = subprocess.run([*compiler_of_cpp, f"-I{HEADER.parent}", "main.cpp", "stub.o", "-o", "main"], cwd=folder, capture_output=True, text=True, check=False)
     return [f"from C++: {done.stderr}"] if done.returncode else []
 
 
 def prototypes():
-    """The functions of the header are the proved ones, and have their parameters."""
+    """The functions of the header are the proved ones, and have their parameters and results; wherever it counts them it has their number."""
     faults, code, text = [], text_of("capi/src/lib.rt"), HEADER.read_text(encoding="ascii")
-    proved = re.findall(r'(?ms)^pub extern "C" fn (\w+)\((.*?)\) -> u32$', code)
-    for function, listed in proved:
+    proved = re.findall(r'(?ms)^pub extern "C" fn (\w+)\((.*?)\) -> (u\d+)$', code)
+    for function, listed, result in proved:
         wanted = []
         for name, kind in re.findall(r"(\w+): ([^,]+)", listed):
-            slice_of = re.fullmatch(r"&(mut )?\[(u\d+)\]", kind)
-            wanted.append(f"{'' if slice_of.group(1) else 'const '}{slice_of.group(2).replace('u', 'uint')}_t *{name}, size_t {name}_len" if slice_of else f"{kind.replace('u', 'uint')}_t {name}")
-        found = re.search(rf"(?ms)^uint32_t {function}\((.*?)\);", text)
+            slice_of = re.fullmatch(r"&(mut )?\[(\w+)\]", kind)
+            wanted.append(f"{'' if slice_of.group(1) else 'const '}{C_TYPES[slice_of.group(2)]} *{name}, size_t {name}_len" if slice_of else f"{C_TYPES[kind]} {name}")
+        found = re.search(rf"(?ms)^{C_TYPES[result]} {function}\((.*?)\);", text)
         if not found or " ".join(found.group(1).split()) != ", ".join(wanted):
-            faults.append(f"{function} has the parameters {', '.join(wanted)}")
+            faults.append(f"{function} has the result {C_TYPES[result]} and the parameters {', '.join(wanted)}")
     declared, exported = re.findall(r"(?m)^\w+ (kramsnep_\w+)\(", text), re.findall(r'extern "C" fn (\w+)', code)
-    if not declared == [function for function, _ in proved] == exported:
+    if not declared == [function for function, *_ in proved] == exported:
         faults.append(f"declared are {declared}, and the proved functions are {exported}")
-    return faults + ([] if text.count(f"the {WORDS[len(exported)]} functions") == 1 else [f"the header has {len(exported)} functions, and says otherwise"])
+    counted = re.findall(rf"the ({'|'.join(WORDS)}) functions", flowing().lower())
+    return faults + ([] if counted and set(counted) == {WORDS[len(exported)]} else [f"the header has {len(exported)} functions, and says {counted}"])
 
 
 # Stand-ins for the functions: they print what they are given, buffers by their place in `lent`.
@@ -324,6 +368,11 @@ uint32_t kramsnep_find_session(uint32_t i, uint32_t r, const uint32_t *f, size_t
     printf("%u %u %ld %zu\n", i, r, PLACE(f), g);
     return 122;
 }
+uint64_t kramsnep_read_config(const uint8_t *a, size_t b, size_t *f, size_t g)
+{
+    printf("%u %zu %zu %zu\n", a[0], b, f[0], g);
+    return 133;
+}
 """
 
 
@@ -357,8 +406,9 @@ def hooking():
 
 
 def numbers():
-    known, there = {**definitions(), **lengths()}, macros()
-    said = {**NUMBERS, **{name: name for name in lengths()}}
+    derived = {**lengths(), **entry_places()}
+    known, there = {**definitions(), **derived}, macros()
+    said = {**NUMBERS, **{name: name for name in derived}}
     faults = [f"{PREFIX}{name} is not in the header" for name in sorted({*said, *OTHERS} - set(there))]
     faults += [f"{PREFIX}{name} has no definition in this test" for name in sorted(set(there) - {*said, *OTHERS})]
     for name, found in printed([name for name in said if name in there]).items():
@@ -452,7 +502,19 @@ def store_file():
     longest = field(len(known["base"])) + known["slotCount"] * blob
     faults = [] if blob <= known["bufferSize"] else [f"a blob's part has up to {blob} bytes"]
     said = f"less than {longest // 1000 + 1},000 bytes"
-    return faults + ([] if " ".join(HEADER.read_text(encoding="ascii").replace("\n *", "").split()).count(said) == 1 else [f"no comment says: {said}; the longest file has {longest}"])
+    return faults + ([] if flowing().count(said) == 1 else [f"no comment says: {said}; the longest file has {longest}"])
+
+
+def configuration():
+    """What the comments say of a flash configuration: how deep it may nest, which level and which entry are one too many, the codes of what is no value, and its words."""
+    known, word = definitions(), profile_words()
+    wanted = [
+        f"at most {known['levels']} levels of brackets deep", f"a {ORDINALS[known['levels'] + 1]} level of brackets */", f"; a {ORDINALS[known['entryMost'] + 1]} entry",
+        f"{known['numberThere']:X} to {known['tooDeep']:X} are told only where a value may begin",
+        f"each an object with {word['blob']} (a string), {word['handler']} (an object with {word['type']}, which is {word['file']}, and {word['path']}, a string) and {word['actions']} "
+        f"(an object with {word['preparation']}, {word['verification']} and {word['update']}, each an object with {word['type']} {word['systemd']} and {word['unit']}, a string, "
+        f"or with {word['type']} {word['reboot']} alone)"]
+    return [f"no comment says, or more than one: {one}" for one in wanted if flowing().count(one) != 1]
 
 
 def crc():
@@ -508,18 +570,22 @@ def jobs():
 
 
 def parts():
-    """The status in a row's word, on both sides of each multiple of its unit; the two parts of a result, and the three of a lookup's."""
+    """The status in a row's word, on both sides of each multiple of its unit; the two parts of a result, the three of a lookup's, and the two of a reading's, up to the most that it can tell."""
     known = definitions()
     words = [k * known["statusUnit"] + d for k in range(1, 9) for d in (-1, 0)]
     results = [code + known["codeUnit"] * length for code in (known["success"], known["notSound"]) for length in (0, 1, known["answerSize"], known["bufferSize"])]
     wanted = [word // known["statusUnit"] % 4 for word in words] + [part for result in results for part in (result % known["codeUnit"], result // known["codeUnit"])]
     lookups = [code + known["codeUnit"] * row + known["visitUnit"] * visits for code in (known["success"], known["notFound"]) for row in (0, 1, 15) for visits in (0, 1, 16)]
     wanted += [part for result in lookups for part in (result % known["codeUnit"], result // known["codeUnit"] % known["codeUnit"], result // known["visitUnit"])]
+    told = [0, 1, known["codeUnit"] - 1, known["codeUnit"], 2 ** 32 // known["codeUnit"] - 1, 2 ** 32 // known["codeUnit"], known["numberMost"]]
+    readings = [code + known["codeUnit"] * number for code in (known["success"], known["badText"], known["notSound"]) for number in told]
+    wanted += [part for result in readings for part in (result % known["codeUnit"], result // known["codeUnit"])]
     body = [f'    printf("%u\\n", (unsigned)KRAMSNEP_JOB_STATUS({word}u & 0xFFFFFFFFu));' for word in words]
     body += [f'    printf("%u %u\\n", (unsigned)KRAMSNEP_CODE({result}u | 0u), (unsigned)KRAMSNEP_LENGTH({result}u & 0xFFFFFFFFu));' for result in results]
     body += [f'    printf("%u %u %u\\n", (unsigned)KRAMSNEP_CODE({result}u | 0u), (unsigned)KRAMSNEP_SESSION_ROW({result}u | 0u), (unsigned)KRAMSNEP_ROWS_VISITED({result}u | 0u));' for result in lookups]
+    body += [f'    printf("%u %llu\\n", (unsigned)KRAMSNEP_CODE(UINT64_C({result}) | 0u), (unsigned long long)KRAMSNEP_CONFIG_NUMBER(UINT64_C({result}) | 0u));' for result in readings]
     found = list(map(int, run_c("\n".join(body)).split()))
-    return [] if found == wanted else [f"KRAMSNEP_JOB_STATUS, KRAMSNEP_CODE, KRAMSNEP_LENGTH, KRAMSNEP_SESSION_ROW and KRAMSNEP_ROWS_VISITED give {found}, not {wanted}"]
+    return [] if found == wanted else [f"KRAMSNEP_JOB_STATUS, KRAMSNEP_CODE, KRAMSNEP_LENGTH, KRAMSNEP_SESSION_ROW, KRAMSNEP_ROWS_VISITED and KRAMSNEP_CONFIG_NUMBER give {found}, not {wanted}"]
 
 
 def version():
@@ -533,7 +599,7 @@ def main():
     if sys.argv[1:] != ["--check"]:
         sys.exit(__doc__)
     failed = False
-    for test in (alone, hooking, prototypes, in_one_place, numbers, nothing_missing, oem_and_names, around, table, comments, store_file, crc, jobs, parts, version):
+    for test in (alone, hooking, prototypes, in_one_place, numbers, nothing_missing, oem_and_names, around, table, comments, store_file, configuration, crc, jobs, parts, version):
         faults = test()
         failed |= bool(faults)
         print("\n".join(f"header, {test.__name__}: {fault}" for fault in faults) or f"header, {test.__name__}: as defined")

@@ -2,7 +2,7 @@
 use mathlib.Core.Bool.{Bool, cond, _&&_, _||_}
 use mathlib.Core.List.{List}
 use Prim.Native.Nat.{ℕ, _/_, _%_, _^_}
-use lib.Dec.{eqb}
+use lib.Dec.{eqb, ltb}
 use Rattle.protocol.specs.Numbers.{invalid, notSound}
 use Rattle.state.specs.State.{State, stateOf}
 use Rattle.state.specs.Soundness.{isSound}
@@ -11,6 +11,7 @@ use Rattle.rules.specs.Respond.{Effect, jobOutcome, Served, served}
 use Rattle.store_file.specs.Saved.{Call, savedInto}
 use Rattle.store_file.specs.Loaded.{Loaded, loaded}
 use Rattle.visits.specs.Visits.{Looked}
+use Rattle.config.specs.Answer.{Outcome, outcome}
 use Rattle.capi_control.specs.Words.{controlFits, controlOf, wordsOf}
 
 -- the memory that holds a state: the control block's words, then what the state lends
@@ -141,3 +142,16 @@ visitUnit = 65536
 -- what such a result says (rule 25.4)
 abbrev pub lookupIn : ℕ → Looked
 lookupIn r = record { code = r % codeUnit; row = r / codeUnit % codeUnit; visits = r / visitUnit }
+
+-- ---- a flash configuration
+-- the most that fits beside the code into 64 bits (rule 28.6)
+abbrev pub numberMost : ℕ
+numberMost = 72057594037927935
+
+-- what the result of reading says, with the fields (rule 28.6)
+abbrev pub configIn : ℕ → List ℕ → Outcome
+configIn r f = outcome (r % codeUnit) (r / codeUnit) f
+
+-- a number that does not fit is told as the most that does (rule 28.6)
+abbrev pub fitted : Outcome → Outcome
+fitted o = outcome (o .code) (cond (ltb numberMost (o .number)) numberMost (o .number)) (o .fields)
