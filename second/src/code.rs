@@ -1,4 +1,5 @@
-//! The completion codes (rules 7.1-7.11, and those of store files in document 02, request b).
+//! The completion codes (rules 7.1-7.11, those of store files in document 02, request b, and those of flash
+//! configurations in request d).
 
 #[derive(Clone, Copy, Debug, PartialEq, Eq)]
 pub struct Code(pub u8);
@@ -48,6 +49,20 @@ impl Code {
     pub const STORE_DATA: Code = Code(0xE9);
     /// EA: the store file has more blobs than there are slots.
     pub const STORE_BLOBS: Code = Code(0xEA);
+    /// F1: a configuration that is no text of the grammar, for none of the reasons that have numbers of their own.
+    pub const CONFIG_GRAMMAR: Code = Code(0xF1);
+    /// F2: a number in a configuration.
+    pub const CONFIG_NUMBER: Code = Code(0xF2);
+    /// F3: `true` in a configuration.
+    pub const CONFIG_TRUE: Code = Code(0xF3);
+    /// F4: `false` in a configuration.
+    pub const CONFIG_FALSE: Code = Code(0xF4);
+    /// F5: `null` in a configuration.
+    pub const CONFIG_NULL: Code = Code(0xF5);
+    /// F6: a bracket inside eight others.
+    pub const CONFIG_DEPTH: Code = Code(0xF6);
+    /// F7: a text of the grammar that is no configuration.
+    pub const CONFIG_PROFILE: Code = Code(0xF7);
 
     pub fn number(self) -> u32 {
         u32::from(self.0)

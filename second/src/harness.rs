@@ -195,6 +195,8 @@ pub trait Implementation {
     fn load(&mut self, file: &[u8], memory: &mut OwnedMemory) -> u32;
     /// Completion code + 256 × the row + 65,536 × the number of rows visited.
     fn find_session(&mut self, identifier: u32, rows: u32, table: &[u32]) -> u32;
+    /// Completion code + 256 × the number of entries or the place of the fault.
+    fn read_config(&mut self, text: &[u8], fields: &mut [usize]) -> u64;
 }
 
 /// This package's implementation.
@@ -219,6 +221,10 @@ impl Implementation for Second {
 
     fn find_session(&mut self, identifier: u32, rows: u32, table: &[u32]) -> u32 {
         crate::find_session(identifier, rows, table)
+    }
+
+    fn read_config(&mut self, text: &[u8], fields: &mut [usize]) -> u64 {
+        crate::read_config(text, fields)
     }
 }
 

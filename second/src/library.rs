@@ -43,6 +43,9 @@ extern "C" {
 
     /// Gives the completion code + 256 × the row + 65,536 × the number of rows visited.
     fn kramsnep_find_session(identifier: u32, rows: u32, table: *const u32, table_len: usize) -> u32;
+
+    /// Gives the completion code + 256 × the number of entries or the place of the fault.
+    fn kramsnep_read_config(text: *const u8, text_len: usize, fields: *mut usize, fields_len: usize) -> u64;
 }
 
 /// The first implementation, linked as a static library.
@@ -114,5 +117,10 @@ impl Implementation for Library {
     fn find_session(&mut self, identifier: u32, rows: u32, table: &[u32]) -> u32 {
         // As above; nothing is written.
         unsafe { kramsnep_find_session(identifier, rows, table.as_ptr(), table.len()) }
+    }
+
+    fn read_config(&mut self, text: &[u8], fields: &mut [usize]) -> u64 {
+        // As above; only the fields are written.
+        unsafe { kramsnep_read_config(text.as_ptr(), text.len(), fields.as_mut_ptr(), fields.len()) }
     }
 }

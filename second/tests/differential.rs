@@ -11,7 +11,7 @@
 mod parts;
 
 use parts::tally::Tally;
-use parts::{histories, lookups, merges, messages, states, store_files, unsound, Share, WORKERS};
+use parts::{configs, histories, lookups, merges, messages, states, store_files, unsound, Share, WORKERS};
 use std::process::ExitCode;
 use std::sync::Mutex;
 use std::time::{Duration, Instant};
@@ -45,6 +45,16 @@ const PARTS: &[Part] = &[
     ("random lookups", lookups::random),
     ("state lookups", lookups::states),
     ("history lookups", lookups::histories),
+    ("config files", configs::files),
+    ("config bytes", configs::every_byte),
+    ("config nesting", configs::nesting),
+    ("config offences", configs::offences),
+    ("config two offences", configs::two_offences),
+    ("config three entries", configs::three_entries),
+    ("random configs", configs::random),
+    ("config rubbish", configs::rubbish),
+    ("config limits", configs::limits),
+    ("config lengths", configs::lengths),
 ];
 
 /// The result of one worker's share of a part.

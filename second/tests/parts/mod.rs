@@ -1,6 +1,9 @@
 //! The parts of the differential test. Each part runs its share of the work for one of the workers.
 
 pub mod breakers;
+pub mod config_reading;
+pub mod config_texts;
+pub mod configs;
 pub mod files;
 pub mod generator;
 pub mod histories;

@@ -1,5 +1,6 @@
 //! What was reached: pairs of command and completion code, situations, and how much was done.
 
+use super::config_texts::KINDS;
 use std::collections::BTreeMap;
 
 /// The rows of the table: the eleven commands by subcommand, then these.
@@ -8,7 +9,8 @@ pub const OUTCOME: usize = 12;
 pub const FIND_SESSION: usize = 13;
 pub const SAVE_PART: usize = 14;
 pub const LOAD: usize = 15;
-pub const COMMANDS: [&str; 16] = [
+pub const READ_CONFIG: usize = 16;
+pub const COMMANDS: [&str; 17] = [
     "Count",
     "Enumerate",
     "Open",
@@ -25,18 +27,23 @@ pub const COMMANDS: [&str; 16] = [
     "Find session",
     "Save part",
     "Load",
+    "Read config",
 ];
 pub const CODES: [u8; 11] = [0x00, 0xFF, 0xC7, 0xCC, 0xC1, 0xCB, 0xC9, 0xC8, 0xC4, 0xC0, 0xD5];
 /// The codes of store files; their rows are printed as a table of their own, which stays narrow so.
 pub const FILE_CODES: [u8; 14] = [
     0x00, 0xFF, 0xC9, 0xE0, 0xE1, 0xE2, 0xE3, 0xE4, 0xE5, 0xE6, 0xE7, 0xE8, 0xE9, 0xEA,
 ];
+/// The codes of configurations, a table of their own too.
+pub const CONFIG_CODES: [u8; 9] = [0x00, 0xFF, 0xF1, 0xF2, 0xF3, 0xF4, 0xF5, 0xF6, 0xF7];
+/// Each code of a configuration is to come up so many times.
+const LEAST_CONFIGS: u64 = 2_000;
 /// The faults of a file in the order in which the later ones are looked for.
 pub const FAULTS: [u8; 10] = [0xE1, 0xE2, 0xE3, 0xE4, 0xE5, 0xE6, 0xE7, 0xE8, 0xE9, 0xEA];
 
 /// Which codes each command may give, by the rules. "(frame)" are messages that reach no subcommand up to 10: too
 /// short or too long (C7), another OEM number (CC), a subcommand over 10 (C1).
-pub const ALLOWED: [&[u8]; 16] = [
+pub const ALLOWED: [&[u8]; 17] = [
     &[0x00, 0xFF, 0xC7],
     &[0x00, 0xFF, 0xC7, 0xCC, 0xC9],
     &[0x00, 0xFF, 0xC7, 0xCC, 0xCB, 0xC0, 0xC4],
@@ -55,6 +62,7 @@ pub const ALLOWED: [&[u8]; 16] = [
     &[
         0x00, 0xFF, 0xE0, 0xE1, 0xE2, 0xE3, 0xE4, 0xE5, 0xE6, 0xE7, 0xE8, 0xE9, 0xEA,
     ],
+    &CONFIG_CODES,
 ];
 
 /// Situations that the tests must reach, so that they are known to go deep.
@@ -175,6 +183,44 @@ pub const SITUATIONS: &[&str] = &[
     "Find session: refused for both",
     "Find session: session open in a history",
     "Find session: session closed in a history",
+    "Read config: accepted, no entry",
+    "Read config: accepted, 8 entries",
+    "Read config: accepted, an empty blob",
+    "Read config: accepted, reboot to prepare",
+    "Read config: accepted, reboot to verify",
+    "Read config: accepted, reboot to update",
+    "Read config: accepted, no reboot",
+    "Read config: cut",
+    "Read config: at a value",
+    "Read config: begun word",
+    "Read config: minus sign",
+    "Read config: digit",
+    "Read config: true",
+    "Read config: false",
+    "Read config: null",
+    "Read config: ninth level, a list",
+    "Read config: ninth level, an object",
+    "Read config: backslash",
+    "Read config: control character",
+    "Read config: byte above printable ones",
+    "Read config: at a key",
+    "Read config: behind a key",
+    "Read config: behind a value in a list",
+    "Read config: behind a value in an object",
+    "Read config: behind the whole value",
+    "Read config: no list",
+    "Read config: entry that is no object",
+    "Read config: ninth entry",
+    "Read config: unknown key",
+    "Read config: repeated key",
+    "Read config: missing key",
+    "Read config: wrong kind of value",
+    "Read config: wrong word",
+    "Read config: unit before reboot",
+    "Read config: unit behind reboot",
+    "Read config: refused for the fields, a good text",
+    "Read config: refused for the fields, a bad text",
+    "Read config: a fault where the text before it goes on",
 ];
 
 /// One situation for every two faults in one file.
@@ -182,11 +228,20 @@ pub fn beside(one: u8, other: u8) -> String {
     format!("{:02X} beside {:02X}", one.min(other), one.max(other))
 }
 
+/// One situation for every two kinds of offence in one configuration.
+pub fn offends_twice(one: &str, other: &str) -> String {
+    let (first, second) = if one < other { (one, other) } else { (other, one) };
+    format!("Read config: {first} beside {second}")
+}
+
 /// All situations to be reached.
 fn situations() -> Vec<String> {
     let mut situations: Vec<String> = SITUATIONS.iter().map(|name| name.to_string()).collect();
     for (place, one) in FAULTS.iter().enumerate() {
         situations.extend(FAULTS[place + 1..].iter().map(|other| beside(*one, *other)));
+    }
+    for (place, one) in KINDS.iter().enumerate() {
+        situations.extend(KINDS[place + 1..].iter().map(|other| offends_twice(one, other)));
     }
     situations
 }
@@ -239,7 +294,8 @@ impl Tally {
     /// The tables of commands and codes, and the situations.
     pub fn print(&self) {
         self.print_table(0..SAVE_PART, &CODES);
-        self.print_table(SAVE_PART..COMMANDS.len(), &FILE_CODES);
+        self.print_table(SAVE_PART..READ_CONFIG, &FILE_CODES);
+        self.print_table(READ_CONFIG..COMMANDS.len(), &CONFIG_CODES);
         println!("situations:");
         for name in situations() {
             println!("  {:>9}  {name}", self.situations.get(&name).unwrap_or(&0));
@@ -285,6 +341,9 @@ impl Tally {
                 }
             }
         }
+        let number = |code: &u8| self.codes[READ_CONFIG][usize::from(*code)];
+        let rare = CONFIG_CODES.iter().filter(|code| number(code) < LEAST_CONFIGS);
+        gaps.extend(rare.map(|code| format!("Read config with code {code:02X}: only {}", number(code))));
         let missing = situations().into_iter();
         let missing = missing.filter(|name| !self.situations.contains_key(name));
         gaps.extend(missing.map(|name| format!("situation not reached: {name}")));
