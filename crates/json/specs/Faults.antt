@@ -7,7 +7,7 @@ use Prim.Native.Nat.{ℕ, suc, _≤_, _<_}
 use lib.Dec.{eqb}
 use lib.ListN.{length, take, drop}
 use Rattle.protocol.specs.Numbers.{badText, tooDeep}
-use Rattle.json.specs.Bytes.{quoteMark, colonMark, openList, openObject, oddOf}
+use Rattle.json.specs.Bytes.{quoteMark, colonMark, openList, openObject, otherCode}
 use Rattle.json.specs.Grammar.{Text}
 
 -- some text begins with p (rule 26.7)
@@ -21,7 +21,7 @@ ValueDue p = Viable (p ++ quoteMark ∷ quoteMark ∷ []) × (Viable (p ++ quote
 -- the code of the bytes that stand where a value is due, and with which no text goes on: a bracket there is one level too many (rule 26.8)
 unfoldable pub dueCode : List ℕ → ℕ
 dueCode [] = badText
-dueCode (b ∷ xs) = cond (eqb b openList || eqb b openObject) tooDeep (oddOf (b ∷ xs))
+dueCode (b ∷ xs) = cond (eqb b openList || eqb b openObject) tooDeep (otherCode (b ∷ xs))
 
 -- THE FAULT of s has the code c and the place p: some text begins with the p bytes before it, and none with one byte more. Where a value is due
 -- its first bytes give the code; everywhere else the code is F1 (rules 26.7-26.9)
