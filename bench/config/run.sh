@@ -9,8 +9,7 @@ rounds=${1:-41}
 case $rounds in
 '' | 0* | *[!0-9]*) echo "usage: run.sh [ROUNDS]" >&2; exit 1 ;;
 esac
-mkdir -p target
-rt staticlib capi >target/staticlib.log 2>&1 || { tail -n 20 target/staticlib.log >&2; exit 1; }
+tools/archive.sh
 out=$(mktemp -d)
 trap 'rm -rf "$out"' EXIT
 trap 'exit 1' INT TERM HUP # so that the folder is removed then too

@@ -32,11 +32,8 @@ static uint32_t any(uint32_t below) {
     return (uint32_t)(seed >> 11) % below;
 }
 
-static bool zero(const uint8_t *p, size_t n) {
-    while (n--)
-        if (*p++) return false;
-    return true;
-}
+/* the first byte is zero, and each other is as the one before it (a loop over the bytes took three quarters of the program's time) */
+static bool zero(const uint8_t *p, size_t n) { return n == 0 || (*p == 0 && memcmp(p, p + 1, n - 1) == 0); }
 
 static bool store_name_padded(const uint8_t *f) {
     if (memcmp(f, "/scan/", 6)) return false;

@@ -5,8 +5,7 @@
 set -eu
 unset CDPATH
 cd "$(dirname "$0")/../.."
-mkdir -p target
-rt staticlib capi >target/staticlib.log 2>&1 || { tail -n 20 target/staticlib.log >&2; exit 1; }
+tools/archive.sh
 out=$(mktemp -d)
 trap 'rm -rf "$out"' EXIT
 trap 'exit 1' INT TERM HUP # so that the folder is removed then too

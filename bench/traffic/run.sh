@@ -9,8 +9,7 @@ records=${1:-1000000}
 case $records in
 '' | 0* | *[!0-9]*) echo "usage: run.sh [RECORDS]" >&2; exit 1 ;;
 esac
-mkdir -p target
-rt staticlib capi >target/staticlib.log 2>&1 || { tail -n 20 target/staticlib.log >&2; exit 1; }
+tools/archive.sh
 rt check blobrun >target/blobrun.log 2>&1 || { tail -n 20 target/blobrun.log >&2; exit 1; }
 out=$(mktemp -d)
 trap 'rm -rf "$out"' EXIT
