@@ -1,1 +1,1 @@
-pub mod Served
+pub mod Outcome

@@ -5,22 +5,14 @@ ghost use Prim.Native.Nat.{ℕ};
 ghost use Rattle.state.specs.State.{stateOf};
 ghost use Rattle.rules.specs.Respond.{silent, jobOutcome, served};
 ghost use Rattle.response_types.specs.After.{replyOf};
-ghost use Rattle.blobs.specs.Call.{servedOf, jobEffectOf};
+ghost use Rattle.request_answer.specs.Call.{servedOf};
+ghost use Rattle.blobs.specs.Call.{jobEffectOf};
 use protocol::ANSWER_SIZE;
 use protocol::Code;
-use request_decode::decode;
-use request_serve::serve;
-use response_send::finish;
+use request_answer::Response;
 use response_types::Said;
 use sound::sound;
 use state::Control;
-
-// The completion code, how long the response is, and the control block after the request.
-pub struct Response {
-    pub code: Code,
-    pub len: usize,
-    pub control: Control,
-}
 
 // Answers one request. The caller lends the session table (64 words), the names (512 bytes), the committed and staged regions (65,536 bytes
 // each), the image (16,384 bytes), the hash (64 bytes) and the answer buffer (64 bytes); anything else, and any state that is not sound, is
@@ -39,25 +31,12 @@ pub fn respond(
 ) -> Response
     ensures { λ r. ⌜ servedOf r (now (table .exit)) (now (names .exit)) (now (committed .exit)) (now (staged .exit)) (now (image .exit)) (now (hash .exit)) (now (answer .exit)) ≡ served clock (now (request .entry)) (stateOf control (now (table .entry)) (now (names .entry)) (now (committed .entry)) (now (staged .entry)) (now (image .entry)) (now (hash .entry))) (now (answer .entry)) ⌝ }
 {
-    if answer.len() != ANSWER_SIZE {
-        return Response {
-            code: Code::NOT_SOUND,
-            len: 0,
-            control,
-        };
-    }
-    if !sound(control, table, names, committed, staged, image, hash) {
-        return Response {
-            code: Code::NOT_SOUND,
-            len: 0,
-            control,
-        };
-    }
-    let asked = decode(request);
-    let act = serve(
+    let able = sound(control, table, names, committed, staged, image, hash)
+        & (answer.len() == ANSWER_SIZE);
+    request_answer::answer(
+        able,
         request,
         clock,
-        asked,
         control,
         table,
         names,
@@ -66,16 +45,7 @@ pub fn respond(
         image,
         hash,
         answer,
-    );
-    let said = act.said;
-    let sent = finish(asked.number(), said, answer);
-    let next = act.control;
-    let code = sent.code;
-    Response {
-        code,
-        len: sent.len,
-        control: next,
-    }
+    )
 }
 
 // The completion code of what a command says.

@@ -1,6 +1,7 @@
 pub mod Merge
 pub mod Lens
 pub mod Ranges
+pub mod Written
 pub mod Bits
 pub mod All
 pub mod Find

@@ -1,87 +1,32 @@
 -- The run's loop: how far it has come, and each turn of it. Assumes nothing.
 use mathlib.Core.Path.{_≡_, refl, sym, _∙_, ap, ap₂, subst}
-use mathlib.Core.Bool.{Bool, true, false, cond}
+use mathlib.Core.Bool.{Bool, true, false, _&&_}
 use mathlib.Core.List.{List, [], _++_, append-assoc, append-nil}
 use Prim.Native.Nat.{ℕ, _+_, _-_, _≤_, _<_}
 use native.Mathlib.Nat.{add-zero, zero-add, add-assoc}
 use native.Mathlib.Omega.{arith}
-use lib.Dec.{leb}
+use lib.Dec.{eqb}
 use borrow.Author.Tests.{leb-true}
-use lib.ListN.{length, take, drop, length-append, length-drop, drop-of-length-le, take-append-drop}
-use lib.Seq.{sets, sets-eq, length-sets, take-at, drop-at, drop-drop, length-take-le}
+use lib.ListN.{length, take, drop, length-drop}
+use lib.Seq.{sets, length-sets, drop-drop, length-take-le}
 use Rattle.laws.specs.Ranges.{part}
+use Rattle.laws.specs.Written.{front-then, front-more, behind-less}
 use Rattle.protocol.specs.Numbers.{answerSize}
 use Rattle.protocol.specs.Frame.{laid}
 use Rattle.state.specs.State.{State}
+use Rattle.state.specs.Soundness.{isSound}
 use Rattle.rules.specs.Respond.{Served, served}
-use Rattle.run_records.specs.declared.Record.{Record}
-use Rattle.run_records.specs.declared.Record.the-variants.{Whole, Cut, End}
-use Rattle.run_records.specs.Records.{prefixSize, clockOf, messageOf, lengthOf, sizeOf, isWhole, recordAt}
-use Rattle.run_records.specs.Lines.{lineMost}
-use Rattle.run_records.proofs.Laws.{line-fits}
-use Rattle.run_output.specs.Run.{requests, Ran, stopped, after, lineAfter, runOf, writtenTo, ran}
+use Rattle.guarantees.specs.Keep.{respond-sound}
+use Rattle.guarantees.specs.Answer.{leaves}
+use Rattle.request_answer.specs.Call.{answerable}
+use Rattle.request_answer.proofs.Served.{not-able, is-sound, has-size}
+use Rattle.records.specs.Records.{clockOf, messageOf, sizeOf, isWhole, requests}
+use Rattle.records.specs.Found.{Found, found-message}
+use Rattle.run_lines.specs.Lines.{lineMost}
+use Rattle.run_lines.proofs.Laws.{line-fits}
+use Rattle.run_output.specs.Run.{Ran, stopped, after, lineAfter, runOf, writtenTo, ran}
 use Rattle.run_output.specs.Laws.{run-full, run-none, run-whole, served-fits}
 use Rattle.run_buffer.specs.Step.{Stepped, stepped}
-
--- ---- the record that the code found
--- it is whole: where its parts stand, in the bytes from the place `at` on
-pub record Found (s : List ℕ) (at clock start len next : ℕ) : Type 0 where
-  pub whole : isWhole (drop at s) ≡ true
-  pub clock-is : clock ≡ clockOf (drop at s)
-  pub start-is : start ≡ at + prefixSize
-  pub len-is : len ≡ lengthOf (drop at s)
-  pub next-is : next ≡ at + sizeOf (drop at s)
-
-pub found : (s : List ℕ) (at clock start len next : ℕ) → Whole clock start len next ≡ recordAt s at → Found s at clock start len next
-unfolding recordAt
-found s at clock start len next e = go (leb (length s) at) (isWhole (drop at s)) refl e
-  where
-    go : (x y : Bool) → isWhole (drop at s) ≡ y
-        → Whole clock start len next ≡ cond x End (cond y (Whole (clockOf (drop at s)) (at + prefixSize) (lengthOf (drop at s)) (at + sizeOf (drop at s))) Cut)
-        → Found s at clock start len next
-    go true y q e = absurd (let z : _≡_ {A = ℕ} 0 1 = cc in omega arith)
-    go false false q e = absurd (let z : _≡_ {A = ℕ} 0 1 = cc in omega arith)
-    go false true q e = record { whole = q; clock-is = cc; start-is = cc; len-is = cc; next-is = cc }
-
--- it and the next record's place lie in the buffer
-pub found-in : {s : List ℕ} {at clock start len next : ℕ} → Found s at clock start len next → (start + len ≤ length s) × (next ≤ length s) × (at < next)
-found-in {s} {at} f =
-    let h = leb-true (sizeOf (drop at s)) (length (drop at s)) (f .whole) in
-    let e = length-drop at s in
-    let p = f .start-is in
-    let q = f .len-is in
-    let r = f .next-is in
-    (omega arith, omega arith, omega arith)
-
-pub found-message : {s : List ℕ} {at clock start len next : ℕ} → Found s at clock start len next → part start len s ≡ messageOf (drop at s)
-found-message {s} {at} f =
-    ap₂ (λ (i n : ℕ). take n (drop i s)) (f .start-is) (f .len-is) ∙ ap (take (lengthOf (drop at s))) (sym (drop-drop prefixSize at s))
-
-found-cut : (s : List ℕ) (at : ℕ) → Cut ≡ recordAt s at → isWhole (drop at s) ≡ false
-unfolding recordAt
-found-cut s at e = go (leb (length s) at) (isWhole (drop at s)) refl e
-  where
-    go : (x y : Bool) → isWhole (drop at s) ≡ y
-        → Cut ≡ cond x End (cond y (Whole (clockOf (drop at s)) (at + prefixSize) (lengthOf (drop at s)) (at + sizeOf (drop at s))) Cut) → isWhole (drop at s) ≡ false
-    go true y q e = absurd (let z : _≡_ {A = ℕ} 0 1 = cc in omega arith)
-    go false true q e = absurd (let z : _≡_ {A = ℕ} 0 1 = cc in omega arith)
-    go false false q e = q
-
-found-end : (s : List ℕ) (at : ℕ) → End ≡ recordAt s at → isWhole (drop at s) ≡ false
-unfolding recordAt
-found-end s at e = go (leb (length s) at) refl (isWhole (drop at s)) refl e
-  where
-    go : (x : Bool) → leb (length s) at ≡ x → (y : Bool) → isWhole (drop at s) ≡ y
-        → End ≡ cond x End (cond y (Whole (clockOf (drop at s)) (at + prefixSize) (lengthOf (drop at s)) (at + sizeOf (drop at s))) Cut) → isWhole (drop at s) ≡ false
-    go true p y q e = rw (drop-of-length-le s {i = at} (leb-true (length s) at p))
-    go false p true q e = absurd (let z : _≡_ {A = ℕ} 0 1 = cc in omega arith)
-    go false p false q e = q
-
--- it is no whole one
-pub found-none : (s : List ℕ) (at : ℕ) (r : Record) → r ≡ recordAt s at → ((clock start len next : ℕ) → r ≡ Whole clock start len next → ⊥) → isWhole (drop at s) ≡ false
-found-none s at (Whole clock start len next) e h = absurd (h clock start len next refl)
-found-none s at Cut e h = found-cut s at e
-found-none s at End e h = found-end s at e
 
 -- ---- one request: u is what the library's function left, as the code has it
 -- the response fits a line and the answer buffer
@@ -92,6 +37,17 @@ reply-fits t m s a e = subst (λ (u : Served). (u .len ≤ answerSize) × (u .le
 pub step-is : (t : List ℕ) (at : ℕ) {u v : Served} {e : ℕ} {x : List ℕ} → u ≡ v → (e ≡ at + length (lineAfter u)) × (x ≡ sets t at (lineAfter u))
     → record { end = e; state = u .state; answer = u .answer; text = x } ≡ stepped v t at
 step-is t at {u} p q = (λ i. record { end = q .0 i; state = u .state; answer = u .answer; text = q .1 i }) ∙ ap (λ (y : Served). stepped y t at) p
+
+-- ---- the test that is made once
+-- a request leaves a sound state sound, an unsound one as it is, and the answer buffer as long as it was
+pub able-kept : (t : ℕ) (m : List ℕ) (s : State) (a : List ℕ) → answerable (served t m s a .state) (served t m s a .answer) ≡ answerable s a
+able-kept t m s a = go (answerable s a) refl
+  where
+    go : (y : Bool) → answerable s a ≡ y → answerable (served t m s a .state) (served t m s a .answer) ≡ answerable s a
+    go true h =
+        ap (λ (n : ℕ). isSound (served t m s a .state) && eqb n answerSize) (leaves t m s a .as-long)
+        ∙ ap (λ (y : Bool). y && eqb (length a) answerSize) (ap isSound (leaves t m s a .state-is (has-size s a h)) ∙ respond-sound t m s (is-sound s a h) ∙ sym (is-sound s a h))
+    go false h = ap (λ (v : Served). answerable (v .state) (v .answer)) (sym (not-able t m s a h))
 
 -- ---- how far the run has come: of the bytes b, at `at`; of the text t₀, which is t now, at `end`
 pub record Progress (b : List ℕ) (s₀ : State) (a₀ t₀ : List ℕ) (at end : ℕ) (s : State) (a t : List ℕ) : Type 0 where
@@ -126,8 +82,7 @@ module _ (b : List ℕ) (s₀ : State) (a₀ t₀ : List ℕ) (at end : ℕ) (s 
   ends h =
       let r : runOf (length t₀) (requests b) s₀ a₀ ≡ record { text = take end t; used = at; state = s; answer = a } =
       p .so-far ∙ ap (after (take end t) at) h ∙ (λ i. record { text = append-nil (take end t) i; used = add-zero at i; state = s; answer = a }) in
-      let x : t ≡ laid (take end t) t₀ =
-      sym (take-append-drop end t) ∙ ap (λ (l : List ℕ). take end t ++ l) (p .behind) ∙ ap (λ (n : ℕ). take end t ++ drop n t₀) (sym front) in
+      let x : t ≡ laid (take end t) t₀ = front-then t t₀ end (p .behind) (let q = p .end-in in let k = p .as-long in omega arith) in
       (λ i. record { len = sym front i; used = at; state = s; answer = a; text = x i }) ∙ ap (writtenTo t₀) (sym r)
 
   pub ends-full : length t₀ - end < lineMost → record { len = end; used = at; state = s; answer = a; text = t } ≡ ran b s₀ a₀ t₀
@@ -149,26 +104,20 @@ module _ (b : List ℕ) (s₀ : State) (a₀ t₀ : List ℕ) (at end : ℕ) (s 
       let most : length l ≤ lineMost = line-fits (v .code) (take (v .len) (v .answer)) (rw (length-take-le (v .len) (v .answer) (f .1)) (f .0)) in
       let fits : sizeOf c ≤ length c = leb-true (sizeOf c) (length c) h in
       let k : length t ≡ length t₀ = p .as-long in
-      let split : sets t end l ≡ (take end t ++ l) ++ drop (end + length l) t = sets-eq l t end (omega arith) in
+      let place : end + length l ≤ length t = omega arith in
       let room-left : length t₀ - end - length l ≡ length t₀ - (end + length l) = omega arith in
-      let head : length (take end t ++ l) ≡ end + length l = length-append (take end t) l ∙ ap (λ (n : ℕ). n + length l) front in
       record {
         at-in = omega (arith, length-drop at b, p .at-in);
         end-in = omega arith;
         as-long = length-sets t end l ∙ p .as-long;
-        behind =
-            ap (drop (end + length l)) split
-            ∙ drop-at (take end t ++ l) (drop (end + length l) t) (end + length l) head
-            ∙ sym (drop-drop (length l) end t)
-            ∙ ap (drop (length l)) (p .behind)
-            ∙ drop-drop (length l) end t₀;
+        behind = behind-less t t₀ end (p .behind) l place;
         so-far =
             p .so-far
             ∙ ap (after (take end t) at) (run-whole (length t₀ - end) s a c h (omega arith))
             ∙ after-after (take end t) l at (sizeOf c) (runOf (length t₀ - end - length l) (requests (drop (sizeOf c) c)) (v .state) (v .answer))
             ∙ ap (λ (n : ℕ). after (take end t ++ l) (at + sizeOf c) (runOf n (requests (drop (sizeOf c) c)) (v .state) (v .answer))) room-left
             ∙ ap₂ (λ (x y : List ℕ). after x (at + sizeOf c) (runOf (length t₀ - (end + length l)) (requests y) (v .state) (v .answer)))
-            (sym (ap (take (end + length l)) split ∙ take-at (take end t ++ l) (drop (end + length l) t) (end + length l) head))
+            (sym (front-more t t₀ end (p .behind) l place))
             (drop-drop (sizeOf c) at b);
       }
 

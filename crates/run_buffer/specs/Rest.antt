@@ -11,7 +11,7 @@ use borrow.Author.Tests.{lt-ltb}
 use lib.ListN.{length, getD, set, take, drop, length-drop, drop-of-length-le}
 use lib.Seq.{paste, paste-suc, drop-paste, getD-drop, take-all}
 use Rattle.protocol.specs.Frame.{laid}
-use Rattle.run_records.specs.Lines.{cutLine}
+use Rattle.run_lines.specs.Lines.{cutLine}
 use Rattle.run_output.specs.Run.{endOf}
 
 pub cut-is : (b : List ℕ) → endOf b ≡ cond (ltb 0 (length b)) cutLine []

@@ -10,14 +10,16 @@ ghost use Rattle.protocol.specs.Frame.{laid};
 ghost use Rattle.state.specs.State.{stateOf};
 ghost use Rattle.state.specs.Words.{fresh};
 ghost use Rattle.rules.specs.Respond.{served};
-ghost use Rattle.run_records.specs.Lines.{lineMost, cutLine};
+ghost use Rattle.request_answer.specs.Call.{answerable};
+ghost use Rattle.run_lines.specs.Lines.{lineMost, cutLine};
 ghost use Rattle.run_output.specs.Run.{endOf, ran};
 ghost use Rattle.run_buffer.specs.Step.{stepped, steppedOf, writtenOf};
-use blobs::respond;
-use run_records::LINE_MOST;
-use run_records::Record;
-use run_records::record_at;
-use run_records::write_line;
+use protocol::ANSWER_SIZE;
+use records::Record;
+use records::record_at;
+use run_lines::LINE_MOST;
+use run_lines::write_line;
+use sound::sound;
 use state::Control;
 use state::Phase;
 use state::SLOTS;
@@ -46,8 +48,10 @@ struct Answered {
     control: Control,
 }
 
-// One request, the len bytes from `start` on: it is answered, and its line is written at the place `at` of the text.
+// One request, the len bytes from `start` on: it is answered, and its line is written at the place `at` of the text. `able` says whether the
+// state is sound and the answer buffer has its size.
 fn answer_one(
+    able: bool,
     records: &[u8],
     clock: u32,
     start: usize,
@@ -63,11 +67,13 @@ fn answer_one(
     text: &mut [u8],
     at: usize,
 ) -> Answered
+    requires { ⌜ able ≡ answerable (stateOf control (now table) (now names) (now committed) (now staged) (now image) (now hash)) (now answer) ⌝ }
     requires { ⌜ (start + len ≤ length (now records)) × (at + lineMost ≤ length (now text)) ⌝ }
     ensures { λ r. ⌜ steppedOf r (now (table .exit)) (now (names .exit)) (now (committed .exit)) (now (staged .exit)) (now (image .exit)) (now (hash .exit)) (now (answer .exit)) (now (text .exit)) ≡ stepped (served clock (part start len (now (records .entry))) (stateOf control (now (table .entry)) (now (names .entry)) (now (committed .entry)) (now (staged .entry)) (now (image .entry)) (now (hash .entry))) (now (answer .entry))) (now (text .entry)) at ⌝ }
 {
     let behind = start + len;
-    let reply = respond(
+    let reply = request_answer::answer(
+        able,
         &records[start..behind],
         clock,
         control,
@@ -93,7 +99,8 @@ pub struct Ran {
 }
 
 // Answers one whole record after another, from the front of `records` on, while a longest line has room in the text. The lines stand at the
-// front of the text. What is lent besides is lent to the library.
+// front of the text. What is lent besides is lent to the library. The state is tested once: a request leaves a sound state sound, and an
+// unsound one as it is.
 pub fn run(
     records: &[u8],
     control: Control,
@@ -109,6 +116,8 @@ pub fn run(
     ensures { λ r. ⌜ writtenOf r (now (table .exit)) (now (names .exit)) (now (committed .exit)) (now (staged .exit)) (now (image .exit)) (now (hash .exit)) (now (answer .exit)) (now (text .exit)) ≡ ran (now (records .entry)) (stateOf control (now (table .entry)) (now (names .entry)) (now (committed .entry)) (now (staged .entry)) (now (image .entry)) (now (hash .entry))) (now (answer .entry)) (now (text .entry)) ⌝ }
     ensures { λ r. ⌜ (r .len ≤ length (now (text .exit))) × (r .used ≤ length (now (records .entry))) ⌝ }
 {
+    let able = sound(control, table, names, committed, staged, image, hash)
+        & (answer.len() == ANSWER_SIZE);
     let mut used: usize = 0;
     let mut end: usize = 0;
     let mut kept = control;
@@ -123,6 +132,7 @@ pub fn run(
             break;
         };
         let done = answer_one(
+            able,
             records,
             clock,
             start,

@@ -1,7 +1,7 @@
 -- What the program prints for a file of requests, and what a run over a buffer of records leaves.
 use mathlib.Core.Bool.{cond}
 use mathlib.Core.List.{List, [], _∷_, _++_}
-use Prim.Native.Nat.{ℕ, zero, suc, _+_, _-_}
+use Prim.Native.Nat.{ℕ, _+_, _-_}
 use lib.Dec.{leb}
 use lib.ListN.{length, take, drop, replicate}
 use Rattle.protocol.specs.Numbers.{answerSize}
@@ -9,28 +9,10 @@ use Rattle.protocol.specs.Frame.{laid}
 use Rattle.state.specs.State.{State}
 use Rattle.state.specs.Words.{fresh}
 use Rattle.rules.specs.Respond.{respond, Served, served}
-use Rattle.run_records.specs.Records.{prefixSize, clockOf, messageOf, sizeOf, isWhole}
-use Rattle.run_records.specs.Lines.{lineOf, lineMost, cutLine}
+use Rattle.records.specs.Records.{prefixSize, Timed, requests, bytesIn}
+use Rattle.run_lines.specs.Lines.{lineOf, lineMost, cutLine}
 
 -- ---- what is printed
--- a request: its clock and its message
-abbrev pub Timed : Type 0
-Timed = ℕ × List ℕ
-
--- the requests of at most n whole records, read one after another from the bytes b
-unfoldable pub requestsIn : ℕ → List ℕ → List Timed
-requestsIn zero b = []
-requestsIn (suc n) b = cond (isWhole b) ((clockOf b, messageOf b) ∷ requestsIn n (drop (sizeOf b) b)) []
-
--- of all of them, as no record is empty
-abbrev pub requests : List ℕ → List Timed
-requests b = requestsIn (length b) b
-
--- the bytes of these requests' records
-unfoldable pub bytesIn : List Timed → ℕ
-bytesIn [] = 0
-bytesIn (q ∷ qs) = prefixSize + length (q .1) + bytesIn qs
-
 -- the lines of requests, each answered on the state that the one before left (rule 20.1)
 unfoldable pub linesOf : List Timed → State → List ℕ
 linesOf [] s = []

@@ -5,7 +5,7 @@ ghost use lib.ListN.{length};
 use libc::STDERR_FILENO;
 use memory_copy::copy_at;
 use protocol::Code;
-use run_records::put_hex;
+use run_lines::put_hex;
 use state::Control;
 use store_loader::load;
 use store_writer::BUFFER_SIZE;

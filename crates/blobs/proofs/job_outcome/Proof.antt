@@ -6,7 +6,7 @@ use mathlib.Core.Bool.{true}
 use borrow.Author.Tests.{not-true, not-false}
 use Rattle.state.specs.State.{State, stateOf}
 use Rattle.state.specs.Agree.{sound-of-test}
-use Rattle.blobs.proofs.Served.{no-outcome, outcome-taken}
+use Rattle.blobs.proofs.Outcome.{no-outcome, outcome-taken}
 use Rattle.blobs.proofs.job_outcome.Statement.{statement}
 use Rattle.blobs.proofs.job_outcome.Tie as tie
 

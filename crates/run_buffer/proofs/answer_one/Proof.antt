@@ -11,43 +11,48 @@ use Rattle.run_buffer.proofs.answer_one.Statement.{statement}
 use Rattle.run_buffer.proofs.answer_one.Tie as tie
 
 -- the places that the answers read
-abbrev entry : tie.After-respond → tie.Start
-entry c =
+abbrev entry-before-answer : tie.After-answer → tie.Start
+entry-before-answer c =
     c .before .before .before .before .before .before .before .before .before .before .before .before .before .before
     .before .before .before .before
 
-abbrev at-respond : tie.After-write-line-arg2 → tie.After-respond
-at-respond c =
+abbrev entry-before-call : tie.After-answer-arg8 → tie.Start
+entry-before-call c =
     c .before .before .before .before .before .before .before .before .before .before .before .before .before .before
     .before .before .before
 
-abbrev at-respond₂ : tie.After-next → tie.After-respond
-at-respond₂ c =
+abbrev answer-before-line : tie.After-write-line-arg2 → tie.After-answer
+answer-before-line c =
+    c .before .before .before .before .before .before .before .before .before .before .before .before .before .before
+    .before .before .before
+
+abbrev answer-before-end : tie.After-next → tie.After-answer
+answer-before-end c =
     c .before .before .before .before .before .before .before .before .before .before .before .before .before .before
     .before .before .before .before .before .before .before
 
-abbrev at-write-line : tie.After-next → tie.After-write-line
-at-write-line c = c .before .before .before
+abbrev line-before-end : tie.After-next → tie.After-write-line
+line-before-end c = c .before .before .before
 
 add-behind : tie.Need-add-behind
 add-behind c = search needs
 
-sub-respond : tie.Need-sub-respond
-sub-respond c = search needs
+sub-answer : tie.Need-sub-answer
+sub-answer c = search needs
 
-part-respond-start : tie.Need-part-respond-start
-part-respond-start c = search needs
+part-answer-start : tie.Need-part-answer-start
+part-answer-start c = search needs
 
-part-respond-end : tie.Need-part-respond-end
-part-respond-end c = search needs
+part-answer-end : tie.Need-part-answer-end
+part-answer-end c = search needs
 
-respond-requires : tie.Need-respond-requires
-respond-requires c κs = tt
+answer-requires : tie.Need-answer-requires
+answer-requires c κs = entry-before-call c .pre .0
 
 write-line-requires : tie.Need-write-line-requires
 write-line-requires c κs =
-    let fits = reply-fits _ _ _ _ (at-respond c .respond .ensures) in
-    (fits .0, (fits .1, entry (at-respond c) .pre .1))
+    let fits = reply-fits _ _ _ _ (answer-before-line c .answer .ensures) in
+    (fits .0, (fits .1, entry-before-answer (answer-before-line c) .pre .1 .1))
 
 same-length : tie.Need-same-length
 same-length c = search needs
@@ -75,22 +80,22 @@ same-length-8 c = search needs
 
 returns : tie.Need-returns
 returns c =
-    let a = entry (at-respond₂ c) .args in
+    let a = entry-before-answer (answer-before-end c) .args in
     step-is (a .text .now) (a .at)
-    (at-respond₂ c .respond .ensures
+    (answer-before-end c .answer .ensures
     ∙ ap (λ (m : List ℕ). served (a .clock) m (stateOf (a .control) (a .table .now) (a .names .now) (a .committed .now) (a .staged .now) (a .image .now) (a .hash .now))
     (a .answer .now)) (lent-part (a .start) (a .len) (a .records .now)))
-    (at-write-line c .write-line .ensures)
+    (line-before-end c .write-line .ensures)
 
 pub answer-one-spec : {M : Type 1} → statement M
 answer-one-spec =
     tie.close
     (tie.spec
     add-behind
-    sub-respond
-    part-respond-start
-    part-respond-end
-    respond-requires
+    sub-answer
+    part-answer-start
+    part-answer-end
+    answer-requires
     write-line-requires
     same-length
     same-length-2

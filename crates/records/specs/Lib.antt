@@ -1,0 +1,4 @@
+pub mod Records
+pub mod Requests
+pub mod Found
+pub mod Samples
