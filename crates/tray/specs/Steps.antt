@@ -1,0 +1,28 @@
+-- One step over the messages of a tray. Assumes nothing.
+use mathlib.Core.Path.{_≡_, refl}
+use mathlib.Core.List.{List, [], _∷_}
+use Prim.Native.Nat.{ℕ, _-_, _≤_, _<_}
+use borrow.Author.Tests.{le-leb, lt-leb}
+use lib.ListN.{length}
+use Rattle.protocol.specs.Numbers.{answerSize}
+use Rattle.state.specs.State.{State}
+use Rattle.rules.specs.Respond.{respond}
+use Rattle.records.specs.Records.{Timed}
+use Rattle.tray.specs.Tray.{nothingDone, doneFirst, doneIn}
+
+-- no message
+pub done-none : (free : ℕ) (s : State) → doneIn free [] s ≡ nothingDone s
+unfolding doneIn
+done-none free s = refl
+
+-- no room
+pub done-full : (free : ℕ) (qs : List Timed) (s : State) → free < answerSize → doneIn free qs s ≡ nothingDone s
+unfolding doneIn
+done-full free [] s h = refl
+done-full free (q ∷ qs) s h = simp (lt-leb answerSize free h)
+
+-- a message, and room for its response
+pub done-one : (free : ℕ) (q : Timed) (qs : List Timed) (s : State) → answerSize ≤ free
+    → doneIn free (q ∷ qs) s ≡ doneFirst (respond (q .0) (q .1) s) (doneIn (free - length (respond (q .0) (q .1) s .response)) qs (respond (q .0) (q .1) s .state))
+unfolding doneIn
+done-one free q qs s h = simp (le-leb answerSize free h)

@@ -1,0 +1,1 @@
+// A tray of requests in one call: definitions. There is no code.
