@@ -1,37 +1,37 @@
 /* kramsnep.h: the C interface of the verified blob library for IPMI management controllers.
  * SPDX-License-Identifier: Apache-2.0
  *
- * The library answers the requests of the IPMI blob protocol: a store of 16 named blobs, and a firmware update by image, hash, verify, update
- * and cleanup. The store can be saved as a file and loaded from one, and a flash configuration (JSON) can be read. It is proved: for every input the
- * result, and every word and byte of the memory lent to it, are those of its rules. This page says how to call it from C, and has every number that
- * a client of the protocol needs; docs/PROTOCOL.md has the rules.
+ * The library answers the requests of the IPMI blob protocol, one in a call or up to 64: a store of 16 named blobs, and a firmware update by image,
+ * hash, verify, update and cleanup. The store can be saved as a file and loaded from one, and a flash configuration (JSON) can be read. It is proved:
+ * for every input the result, and every word and byte of the memory lent to it, are those of its rules. This page says how to call it from C, and has
+ * every number that a client of the protocol needs; docs/PROTOCOL.md has the rules.
  *
  * In this order: version; messages (frame, CRC, subcommands and their fields, flags, states, names, completion codes, times, what a client does);
- * the memory to lend and what stands in it; the six functions, with the form of a store file and the fields of a configuration; the memory as one
- * struct. The six functions are proved; the inline functions of this page are plain C, tested and not proved. It needs C99 or later, or C++11 or
- * later, and a machine that the archive was made for (x86-64).
+ * the memory to lend and what stands in it; the seven functions, with the form of a store file, the fields of a configuration and the records of a
+ * tray; the memory as one struct. The seven functions are proved; the inline functions of this page are plain C, tested and not proved. It needs C99
+ * or later, or C++11 or later, and a machine that the archive was made for (x86-64).
  *
  * Memory. The caller owns all memory and lends it for the time of a call. The library allocates nothing, has no global state and keeps no
  * pointer. Lend the same memory at each call, and write nothing into it in between: it is the whole state. (The answer buffer, the buffer for a part
- * of a store file, such a file, a configuration and its fields are no part of it.)
+ * of a store file, such a file, a configuration and its fields, a tray with its responses and results are no part of it.)
  * Zero all of it once, at start (memset, or static storage): all zeros is the fresh state, with no blob, no session and no update under way.
  * Nothing in it is a pointer, so it may be copied or saved as a whole; with memory that was saved the clock must go on from where it was. To keep
  * the store alone, in a form that other programs read too, see kramsnep_save_part.
  *
  * - No pointer may be null, not even one to a length of 0.
- * - Each length is the true number of elements behind its pointer: 32-bit words for control and table, size_t for the fields of a
- *   configuration, bytes for all else.
- * - control and table are aligned as uint32_t, such fields as size_t; the others may stand anywhere.
- * - No two of the buffers may overlap; the request, the file to load, or the text to read may not stand in any of the others.
+ * - Each length is the true number of elements behind its pointer: 32-bit words for control, table and the results of a tray, size_t for the
+ *   fields of a configuration, bytes for all else.
+ * - control, table and such results are aligned as uint32_t, such fields as size_t; the others may stand anywhere.
+ * - No two of the buffers may overlap; the request, the tray, the file to load, or the text to read may not stand in any of the others.
  * - Words are uint32_t of the machine. Numbers in messages are little-endian.
  *
  * The library tests at each call that the lent lengths are exact and that the state is sound; if not, the result is KRAMSNEP_NOT_SOUND and
  * nothing is changed. So wrong lengths and damaged memory are refused, but null or dangling pointers and false lengths are not caught.
  * (kramsnep_find_session is lent the session table alone, and tests its length and the mask that goes with it; kramsnep_read_config is lent no
- * state, and tests the length of the fields.)
+ * state, and tests the length of the fields. What is read, and the responses of a tray, may have any length.)
  *
  * Threads. Calls on different memory may run at the same time. Calls on the same memory must not: hold a lock, or call from one task.
- * A call does not block and always ends. It needs little stack: less than 3 KB on x86-64, over every subcommand, every part of a store file, and
+ * A call does not block and always ends. It needs little stack: less than 4 KB on x86-64, over every subcommand, every part of a store file, and
  * configurations of every depth. Only kramsnep_load needs more, less than 35 KB, whatever the file (measured, not proved).
  */
 #ifndef KRAMSNEP_H
@@ -46,9 +46,9 @@ extern "C" {
 
 /* ---- Version: semantic. Before 1.0.0 a minor version may change what is here; docs/CHANGELOG.md says what. */
 #define KRAMSNEP_VERSION_MAJOR 0
-#define KRAMSNEP_VERSION_MINOR 5
+#define KRAMSNEP_VERSION_MINOR 6
 #define KRAMSNEP_VERSION_PATCH 0
-#define KRAMSNEP_VERSION "0.5.0"
+#define KRAMSNEP_VERSION "0.6.0"
 
 /* ---- Messages
  *
@@ -199,8 +199,8 @@ static inline uint16_t kramsnep_crc(const uint8_t *bytes, size_t n)
 #define KRAMSNEP_BUSY 0xC0            /* the blob or the flash has a session, or a job runs */
 #define KRAMSNEP_UNKNOWN_COMMAND 0xC1 /* the subcommand is above 10 */
 #define KRAMSNEP_NO_ROOM 0xC4         /* all 16 sessions, or all 16 blobs, are in use */
-#define KRAMSNEP_WRONG_LENGTH 0xC7    /* message below 4 or above 64 bytes, or the body's length is wrong for its subcommand */
-#define KRAMSNEP_TOO_LONG 0xC8        /* a Write would end above the capacity */
+#define KRAMSNEP_WRONG_LENGTH 0xC7    /* message below 4 or above 64 bytes, body's length wrong for its subcommand, or a tray ends inside a record */
+#define KRAMSNEP_TOO_LONG 0xC8        /* a Write would end above the capacity, or a tray goes on behind its 64th record */
 #define KRAMSNEP_OUT_OF_RANGE 0xC9    /* Enumerate's index is not below the count, Write's offset is above the length, or there is no such part */
 #define KRAMSNEP_NOT_FOUND 0xCB       /* no such blob or session */
 #define KRAMSNEP_INVALID 0xCC         /* OEM number, CRC, form of a name, flags, commit length, or the verdict on a job, are wrong */
@@ -313,10 +313,10 @@ static inline uint16_t kramsnep_crc(const uint8_t *bytes, size_t n)
 #define KRAMSNEP_JOB_SUCCEEDED 2
 #define KRAMSNEP_JOB_FAILED 3
 
-/* ---- The six functions */
+/* ---- The seven functions */
 
-/* The two halves of a result of kramsnep_respond or kramsnep_save_part: completion code, and length of what was written (0 for a refusal). The first
- * of them takes a result of any of the functions. */
+/* The two halves of a result of kramsnep_respond or kramsnep_save_part, or of a word that kramsnep_tray leaves for a message: completion code, and
+ * length of what was written (0 for a refusal). The first of them takes a result of any of the functions. */
 #define KRAMSNEP_CODE(result) ((uint8_t)((result) & 0xFFu))
 #define KRAMSNEP_LENGTH(result) ((size_t)((result) >> 8))
 
@@ -488,6 +488,59 @@ uint32_t kramsnep_find_session(uint32_t identifier, uint32_t rows, const uint32_
  * The time grows with the length of the text, in proportion. */
 uint64_t kramsnep_read_config(const uint8_t *text, size_t text_len, size_t *fields, size_t fields_len);
 
+/* A tray is a list of up to KRAMSNEP_TRAY_MESSAGES messages, each with a clock: records that follow each other without gaps, in the form that the
+ * program blobrun reads too. A record:
+ *   0-3   clock, as kramsnep_respond takes it
+ *   4     length of the message
+ *   5-    message, so many bytes; the next record starts behind it */
+#define KRAMSNEP_TRAY_MESSAGES 64    /* the most in a tray; and the words of results, the length to lend */
+#define KRAMSNEP_TRAY_RESPONSES 4096 /* with so many bytes of responses no tray stops early: KRAMSNEP_ANSWER_SIZE for each message */
+#define KRAMSNEP_RECORD_CLOCK_AT 0
+#define KRAMSNEP_RECORD_CLOCK_WIDTH 4
+#define KRAMSNEP_RECORD_LENGTH_AT 4
+#define KRAMSNEP_RECORD_MESSAGE_AT 5
+
+/* A result of kramsnep_tray beside its completion code: the number of messages done, and the bytes of all their responses. A refusal has 0 in both. */
+#define KRAMSNEP_TRAY_DONE(result) (((result) >> 8) & 0xFFu)
+#define KRAMSNEP_TRAY_BYTES(result) ((size_t)((result) >> 16))
+
+/* Answers the messages of a tray, in their order: each as kramsnep_respond does with the record's clock, on the state that the one before it left.
+ *
+ * records, records_len: the whole tray. Any length may be passed, 0 too: an empty tray is a success with no message done.
+ * responses: it takes the place of the answer buffer, and may have any length, 0 too. The responses stand in its first KRAMSNEP_TRAY_BYTES(result)
+ *   bytes, end to end in the order of their messages; the bytes behind keep their values.
+ * results: KRAMSNEP_TRAY_MESSAGES words. Word k is, for each message k (from 0) that was done, what kramsnep_respond gives for it; the other words
+ *   keep their values. The response to message k has KRAMSNEP_LENGTH(results[k]) bytes, and starts behind those to the messages before it.
+ *
+ * A message that is refused has its code in results, and does not stop the rest. (One of 65 to 255 bytes is refused with KRAMSNEP_WRONG_LENGTH.) So
+ * a success of this call does not say that every message was accepted: look at each of the words.
+ *
+ * Where fewer than KRAMSNEP_ANSWER_SIZE bytes of responses are free before a message, the call stops there, whatever that message is. This is a
+ * success too, with fewer messages done than the tray has: their results and responses, and the state, are those of so many single calls. To go on,
+ * take out what was answered, and call again with the records that were not done, the rest of the tray; a record has KRAMSNEP_RECORD_MESSAGE_AT bytes
+ * and those that its length byte says. With fewer than KRAMSNEP_ANSWER_SIZE bytes of responses no message is ever done, however often it is called.
+ *
+ * The result is the completion code in the lowest byte, the number of messages done in the byte above it, and the bytes of responses above both.
+ * A refusal of the tray is its code alone: no message was done, and nothing was changed. To that end the whole tray is looked at before its first
+ * message is answered, also behind the place where the call would stop. Refusals are tested in this order:
+ *   KRAMSNEP_NOT_SOUND     a lent length is wrong, that of results too, or the state is damaged; also where the tray is empty
+ *   KRAMSNEP_WRONG_LENGTH  one of the first KRAMSNEP_TRAY_MESSAGES records is cut: the tray ends inside it
+ *   KRAMSNEP_TOO_LONG      the tray goes on behind KRAMSNEP_TRAY_MESSAGES whole records
+ *
+ * Messages of every kind and of several sessions may stand in a tray. But all of them are written down before the first is answered. Which session
+ * an Open is given is known from its response alone: use it from the next call on. What is to be done only if others are accepted, as a Commit
+ * behind Writes, belongs in a later tray. And a job that a Commit starts runs on at least until the call is over.
+ *
+ * That requests of different open sessions do not see each other is proved of single messages, however they are merged, on sessions that are open
+ * when the first of them comes. Of whole trays, which may have Opens too, no such thing is said: two trays sent in the other order may be answered
+ * otherwise. */
+uint32_t kramsnep_tray(const uint8_t *records, size_t records_len,
+                       uint32_t *control, size_t control_len, uint32_t *table, size_t table_len,
+                       uint8_t *names, size_t names_len, uint8_t *committed, size_t committed_len,
+                       uint8_t *staged, size_t staged_len, uint8_t *image, size_t image_len,
+                       uint8_t *hash, size_t hash_len, uint8_t *responses, size_t responses_len,
+                       uint32_t *results, size_t results_len);
+
 /* ---- All of it in one place, for callers who keep it so */
 
 struct kramsnep_memory {
@@ -542,6 +595,16 @@ static inline uint32_t kramsnep_load_in(struct kramsnep_memory *m, const uint8_t
 static inline uint32_t kramsnep_find_session_in(const struct kramsnep_memory *m, uint32_t identifier)
 {
     return kramsnep_find_session(identifier, m->control[KRAMSNEP_CONTROL_ROWS], m->table, KRAMSNEP_TABLE_WORDS);
+}
+
+/* kramsnep_tray on memory of that type, and results of KRAMSNEP_TRAY_MESSAGES words. */
+static inline uint32_t kramsnep_tray_in(struct kramsnep_memory *m, const uint8_t *records, size_t records_len,
+                                        uint8_t *responses, size_t responses_len, uint32_t *results)
+{
+    return kramsnep_tray(records, records_len, m->control, KRAMSNEP_CONTROL_WORDS, m->table, KRAMSNEP_TABLE_WORDS,
+                         m->names, KRAMSNEP_NAMES_SIZE, m->committed, KRAMSNEP_COMMITTED_SIZE, m->staged, KRAMSNEP_STAGED_SIZE,
+                         m->image, KRAMSNEP_IMAGE_SIZE, m->hash, KRAMSNEP_HASH_SIZE, responses, responses_len,
+                         results, KRAMSNEP_TRAY_MESSAGES);
 }
 
 #ifdef __cplusplus

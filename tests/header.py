@@ -8,9 +8,9 @@ header.py --check    needs a C compiler (CC, or cc); C++ is tried where there is
 - Each of its numbers is the value of the definition that NUMBERS names for it, in the specs and, where the code has the number too, in the code; no number of the header is
   without a definition, and no number of Numbers.antt is missing that a client needs.
 - The table of requests and responses in its comment is that of Decode.antt and of the replies; so are the numbers in the comments on frame, control block and rows. The longest store file is as long as it says; a flash configuration
-  has the depth, the words and the places of its strings that Grammar.antt, Words.antt and Fields.antt give it. Names, OEM bytes and version are those of Names.antt, of Numbers.antt and of the
-  first entry of docs/CHANGELOG.md.
-- kramsnep_crc gives the worked values and what Python's own CRC gives; kramsnep_running_job and the macros with an argument give what the layout of a row and of a result says.
+  has the depth, the words and the places of its strings that Grammar.antt, Words.antt and Fields.antt give it; the records of a tray have the places of Records.antt, and it has as many as Tray.antt lets it have. Names, OEM bytes and version are those of
+  Names.antt, of Numbers.antt and of the first entry of docs/CHANGELOG.md.
+- kramsnep_crc gives the worked values and what Python's own CRC gives; kramsnep_running_job and the macros with an argument give what the layout of a row says, and what Call.antt reads from a result.
 
 Values of the header are those that a compiled program prints; definitions are read from the files."""
 import binascii
@@ -27,8 +27,8 @@ ROOT = pathlib.Path(__file__).resolve().parent.parent
 HEADER = ROOT / "include" / "kramsnep.h"
 PREFIX = "KRAMSNEP_"
 SPECS = ("protocol/specs/Numbers", "protocol/specs/Decode", "protocol/specs/Names", "rules/specs/Messages", "crc/specs/Crc", "capi_control/specs/Words", "capi/specs/Call",
-         "store_file/specs/Messages", "store_file/specs/Saved", "json/specs/Grammar", "config/specs/Profile", "config/specs/Fields")
-CODE = ("protocol", "state", "crc", "open_sweep", "capi_control", "capi", "store_file", "store_writer", "run_store", "config_profile", "config_reader")
+         "store_file/specs/Messages", "store_file/specs/Saved", "json/specs/Grammar", "config/specs/Profile", "config/specs/Fields", "records/specs/Records", "tray/specs/Tray")
+CODE = ("protocol", "state", "crc", "open_sweep", "capi_control", "capi", "store_file", "store_writer", "run_store", "config_profile", "config_reader", "records", "tray_form")
 C_TYPES = {"u8": "uint8_t", "u32": "uint32_t", "u64": "uint64_t", "usize": "size_t"}
 WORDS = "no one two three four five six seven eight nine ten eleven twelve".split()
 ORDINALS = "zeroth first second third fourth fifth sixth seventh eighth ninth tenth eleventh twelfth".split()
@@ -90,6 +90,9 @@ NUMBERS = {
     "FILE_BLOB_DATA": "dataField, store_file::BLOB_DATA", "PART_SIZE": "bufferSize, store_writer::BUFFER_SIZE", "PARTS_MOST": "1 + slotCount, run_store::PARTS_MOST",
     "CONFIG_ENTRIES": "entryMost, config_profile::ENTRY_MOST", "ENTRY_FIELDS": "fieldCount / entryMost, rowOf.length",
     "CONFIG_FIELDS": "fieldCount, config_reader::FIELD_COUNT, entryMost * rowOf.length",
+    "TRAY_MESSAGES": "trayMost, tray_form::TRAY_MOST", "TRAY_RESPONSES": "trayMost * answerSize", "RECORD_CLOCK_AT": "record.clock",
+    "RECORD_CLOCK_WIDTH": "record.clock.width, clockSize, records::CLOCK_SIZE", "RECORD_LENGTH_AT": "record.length",
+    "RECORD_MESSAGE_AT": "record.message, prefixSize, records::PREFIX_SIZE",
 }
 NAMES = {"NAME_BASE": ("base", "protocol::BASE"), "NAME_IMAGE": ("flashName.Image", "protocol::FLASH_IMAGE"), "NAME_HASH": ("flashName.Hash", "protocol::FLASH_HASH"),
          "NAME_VERIFY": ("flashName.Verify", "protocol::FLASH_VERIFY"), "NAME_UPDATE": ("flashName.Update", "protocol::FLASH_UPDATE"),
@@ -132,7 +135,7 @@ def spec_values():
             known[f"{name}.{case}"] = bytes_or_number(said, known)
     for case in ("Image", "Hash", "Verify", "Update", "Cleanup"):
         known[f"flashName.{case}"] = known["flashFolder"] + known[f"flashWord.{case}"]
-    return {**known, **place_values()}
+    return {**known, **place_values(), **record_places(known)}
 
 
 def place_values():
@@ -141,6 +144,26 @@ def place_values():
     found += re.findall(r"(?m)^(\w+) r = getD \(r \.words\) (\d+) 0$", text_of("state/specs/Words.antt"))
     found += [(f"word.{name}", at) for name, at in re.findall(r"(?m)^  (\w+) = getD w (\d+) 0;$", text_of("capi_control/specs/Words.antt"))]
     return {name: int(at) for name, at in found}
+
+
+def record_places(known):
+    """record.part -> its place in a record, and record.clock.width -> the bytes of its clock. A record ends with its message, behind which the next one starts."""
+    text = text_of("records/specs/Records.antt")
+    width, clock = re.search(r"(?m)^clockOf b = little (\w+) (\d+) b$", text).groups()
+    length = re.search(r"(?m)^lengthOf b = getD b (\w+) 0$", text).group(1)
+    message = re.search(r"(?m)^messageOf b = part (\w+) \(lengthOf b\) b$", text).group(1)
+    if f"\nsizeOf b = {message} + lengthOf b\n" not in text:
+        sys.exit("Records.antt: a record no longer ends with its message")
+    return {name: value(said, known) for name, said in (("record.clock", clock), ("record.clock.width", width), ("record.length", length), ("record.message", message))}
+
+
+def told_by(definition, fields, result, known):
+    """What these fields are, by a definition of Call.antt that takes results apart, for one of them."""
+    said = re.search(rf"(?ms)^{definition} r\b.*?(?=\n\n|\Z)", text_of("capi/specs/Call.antt")).group()
+    found = [re.findall(rf"\b{field} = ([^;}}]+?)\s*[;}}]", said) for field in fields]
+    if any(len(one) != 1 for one in found):
+        sys.exit(f"Call.antt: {definition} no longer gives each of {', '.join(fields)} once")
+    return [value(one.replace("/", "//"), {**known, "r": result}) for [one] in found]
 
 
 def code_values():
@@ -302,7 +325,7 @@ def linked_from(compiler_of_cpp):
     with tempfile.TemporaryDirectory() as name:
         folder = pathlib.Path(name)
         (folder / "stub.c").write_text(STUBS, encoding="ascii")
-        calls = "kramsnep_respond_in(&m, m.names, 0, 0, m.hash) + kramsnep_job_outcome_in(&m, 0) + kramsnep_save_part_in(&m, 0, m.image) + kramsnep_load_in(&m, m.hash, 0) + kramsnep_find_session_in(&m, 0) + kramsnep_read_config(m.hash, 1, &n, 1)"
+        calls = "kramsnep_respond_in(&m, m.names, 0, 0, m.hash) + kramsnep_job_outcome_in(&m, 0) + kramsnep_save_part_in(&m, 0, m.image) + kramsnep_load_in(&m, m.hash, 0) + kramsnep_find_session_in(&m, 0) + kramsnep_read_config(m.hash, 1, &n, 1) + kramsnep_tray_in(&m, m.names, 0, m.image, 0, m.table)"
         (folder / "main.cpp").write_text(f'#include "kramsnep.h"\nint main() {{ static kramsnep_memory m; size_t n = 0; return (int)({calls}); }}\n', encoding="ascii")
         subprocess.run([*compiler(), "-c", f"-I{HEADER.parent}", "stub.c"], cwd=folder, check=True)
         done = subprocess.run([*compiler_of_cpp, f"-I{HEADER.parent}", "main.cpp", "stub.o", "-o", "main"], cwd=folder, capture_output=True, text=True, check=False)
@@ -373,6 +396,14 @@ uint64_t kramsnep_read_config(const uint8_t *a, size_t b, size_t *f, size_t g)
     printf("%u %zu %zu %zu\n", a[0], b, f[0], g);
     return 133;
 }
+uint32_t kramsnep_tray(const uint8_t *a, size_t b, uint32_t *d, size_t e, uint32_t *f, size_t g, uint8_t *h, size_t i, uint8_t *j, size_t k,
+                       uint8_t *l, size_t m, uint8_t *n, size_t o, uint8_t *p, size_t q, uint8_t *r, size_t s, uint32_t *t, size_t u)
+{
+    printf("%u %zu ", a[0], b);
+    printf("%ld %zu %ld %zu %ld %zu %ld %zu %ld %zu %ld %zu %ld %zu ", PLACE(d), e, PLACE(f), g, PLACE(h), i, PLACE(j), k, PLACE(l), m, PLACE(n), o, PLACE(p), q);
+    printf("%u %zu %u %zu\n", r[0], s, t[0], u);
+    return 144;
+}
 """
 
 
@@ -386,14 +417,14 @@ def in_one_place():
         buffers += [at, count]
         at += count * width
     body = ["    static struct kramsnep_memory m;", "    uint8_t request[3] = {11, 12, 13}, answer[KRAMSNEP_ANSWER_SIZE] = {21}, buffer[KRAMSNEP_PART_SIZE] = {31}, file[5] = {41};",
-            "    const struct kramsnep_memory *read = &m;", "    lent = (const char *)&m;",
+            "    uint32_t results[KRAMSNEP_TRAY_MESSAGES] = {51};", "    const struct kramsnep_memory *read = &m;", "    lent = (const char *)&m;",
             '    printf("%u\\n", kramsnep_respond_in(&m, request, 3, 4000000000u, answer));', '    printf("%u\\n", kramsnep_job_outcome_in(&m, 5));',
             '    printf("%u\\n", kramsnep_save_part_in(read, 4000000001u, buffer));', '    printf("%u\\n", kramsnep_load_in(&m, file, 5));', '    printf("%zu\\n", sizeof m);',
             "    m.control[KRAMSNEP_CONTROL_ROWS] = 2; m.table[5] = KRAMSNEP_BLOB_UPDATE; m.table[6] = 0x10002;", '    printf("%d\\n", kramsnep_running_job_in(read));',
-            '    printf("%u\\n", kramsnep_find_session_in(read, 4000000002u));']
+            '    printf("%u\\n", kramsnep_find_session_in(read, 4000000002u));', '    printf("%u\\n", kramsnep_tray_in(&m, request, 2, answer, 9, results));']
     found = [[int(word) for word in line.split()] for line in run_c("\n".join(body), STUBS).splitlines()]
     wanted = [[11, 3, 4000000000, *buffers, 21, known["answerSize"]], [77], [5, *buffers], [88], [4000000001, *buffers, 31, known["bufferSize"]], [99], [41, 5, *buffers], [111],
-              [at], [known["updateBlob"]], [4000000002, 2, *buffers[2:4]], [122]]
+              [at], [known["updateBlob"]], [4000000002, 2, *buffers[2:4]], [122], [11, 2, *buffers, 21, 9, 51, known["trayMost"]], [144]]
     return [f"handed on: {one}, not {other}" for one, other in zip(found, wanted, strict=True) if one != other]
 
 
@@ -476,7 +507,7 @@ def table():
 
 
 def comments():
-    """The numbers in the comments on frame, control block and rows are those of the definitions."""
+    """The numbers in the comments on frame, control block, rows and records are those of the definitions."""
     known = definitions()
     lens, staged, slots = known["committedLensAt"], known["stagedLensAt"], known["slotCount"]
     wanted = [
@@ -487,7 +518,9 @@ def comments():
         f"{known['imageLenAt']}, {known['hashLenAt']}  length of the image, of the hash", f"{known['nextAt']}      next session identifier", f"{known['lastSweepAt']}      clock of the last sweep",
         f"{known['idOf']}  identifier", f"{known['blobOf']}  blob: 0 to {slots - 1} are store slots, {known['imageBlob']} to {known['cleanupBlob']} the flash names below",
         f"{known['wordOf']}  open flags in bits 0-15, job status in bits {known['statusUnit'].bit_length() - 1}-{known['statusUnit'].bit_length()}, clean (nothing written since the last commit) in bit {known['cleanUnit'].bit_length() - 1}",
-        f"{known['stampOf']}  stamp: the clock of the session's last use"]
+        f"{known['stampOf']}  stamp: the clock of the session's last use",
+        f"{known['record.clock']}-{known['record.clock'] + known['record.clock.width'] - 1}   clock, as kramsnep_respond takes it", f"{known['record.length']}     length of the message",
+        f"{known['record.message']}-    message, so many bytes"]
     lines = [line.removeprefix(" *   ") for line in HEADER.read_text(encoding="ascii").splitlines()]
     return [f"no comment says: {one}" for one in wanted if not any(line.startswith(one) for line in lines)]
 
@@ -514,6 +547,14 @@ def configuration():
         f"each an object with {word['blob']} (a string), {word['handler']} (an object with {word['type']}, which is {word['file']}, and {word['path']}, a string) and {word['actions']} "
         f"(an object with {word['preparation']}, {word['verification']} and {word['update']}, each an object with {word['type']} {word['systemd']} and {word['unit']}, a string, "
         f"or with {word['type']} {word['reboot']} alone)"]
+    return [f"no comment says, or more than one: {one}" for one in wanted if flowing().count(one) != 1]
+
+
+def tray():
+    """What the comments say of a tray: how many messages it may have, and which lengths a record can give a message that no request may have."""
+    known = definitions()
+    length_bytes = known["record.message"] - known["record.length"]
+    wanted = [f"one in a call or up to {known['trayMost']}:", f"a tray goes on behind its {known['trayMost']}th record */", f"One of {known['messageSize'] + 1} to {256 ** length_bytes - 1} bytes is refused"]
     return [f"no comment says, or more than one: {one}" for one in wanted if flowing().count(one) != 1]
 
 
@@ -570,22 +611,27 @@ def jobs():
 
 
 def parts():
-    """The status in a row's word, on both sides of each multiple of its unit; the two parts of a result, the three of a lookup's, and the two of a reading's, up to the most that it can tell."""
+    """The status in a row's word, on both sides of each multiple of its unit; the two parts of a result, the three of a lookup's and of a tray's, and the two of a reading's, up to the most that it can tell."""
     known = definitions()
     words = [k * known["statusUnit"] + d for k in range(1, 9) for d in (-1, 0)]
     results = [code + known["codeUnit"] * length for code in (known["success"], known["notSound"]) for length in (0, 1, known["answerSize"], known["bufferSize"])]
     wanted = [word // known["statusUnit"] % 4 for word in words] + [part for result in results for part in (result % known["codeUnit"], result // known["codeUnit"])]
-    lookups = [code + known["codeUnit"] * row + known["visitUnit"] * visits for code in (known["success"], known["notFound"]) for row in (0, 1, 15) for visits in (0, 1, 16)]
-    wanted += [part for result in lookups for part in (result % known["codeUnit"], result // known["codeUnit"] % known["codeUnit"], result // known["visitUnit"])]
+    lookups = [code + known["codeUnit"] * row + known["secondUnit"] * visits for code in (known["success"], known["notFound"]) for row in (0, 1, 15) for visits in (0, 1, 16)]
+    wanted += [part for result in lookups for part in told_by("lookupIn", ("code", "row", "visits"), result, known)]
     told = [0, 1, known["codeUnit"] - 1, known["codeUnit"], 2 ** 32 // known["codeUnit"] - 1, 2 ** 32 // known["codeUnit"], known["numberMost"]]
     readings = [code + known["codeUnit"] * number for code in (known["success"], known["badText"], known["notSound"]) for number in told]
     wanted += [part for result in readings for part in (result % known["codeUnit"], result // known["codeUnit"])]
+    full = known["trayMost"] * known["answerSize"]
+    trays = [code + known["codeUnit"] * done + known["secondUnit"] * length for code in (known["success"], known["notSound"]) for done in (0, 1, known["trayMost"], known["codeUnit"] - 1)
+             for length in (0, 1, full, 2 ** 32 // known["secondUnit"] - 1)]
+    wanted += [part for result in trays for part in told_by("trayIn", ("code", "done", "len"), result, known)]
     body = [f'    printf("%u\\n", (unsigned)KRAMSNEP_JOB_STATUS({word}u & 0xFFFFFFFFu));' for word in words]
     body += [f'    printf("%u %u\\n", (unsigned)KRAMSNEP_CODE({result}u | 0u), (unsigned)KRAMSNEP_LENGTH({result}u & 0xFFFFFFFFu));' for result in results]
     body += [f'    printf("%u %u %u\\n", (unsigned)KRAMSNEP_CODE({result}u | 0u), (unsigned)KRAMSNEP_SESSION_ROW({result}u | 0u), (unsigned)KRAMSNEP_ROWS_VISITED({result}u | 0u));' for result in lookups]
     body += [f'    printf("%u %llu\\n", (unsigned)KRAMSNEP_CODE(UINT64_C({result}) | 0u), (unsigned long long)KRAMSNEP_CONFIG_NUMBER(UINT64_C({result}) | 0u));' for result in readings]
+    body += [f'    printf("%u %u %zu\\n", (unsigned)KRAMSNEP_CODE({result}u | 0u), (unsigned)KRAMSNEP_TRAY_DONE({result}u | 0u), (size_t)KRAMSNEP_TRAY_BYTES({result}u | 0u));' for result in trays]
     found = list(map(int, run_c("\n".join(body)).split()))
-    return [] if found == wanted else [f"KRAMSNEP_JOB_STATUS, KRAMSNEP_CODE, KRAMSNEP_LENGTH, KRAMSNEP_SESSION_ROW, KRAMSNEP_ROWS_VISITED and KRAMSNEP_CONFIG_NUMBER give {found}, not {wanted}"]
+    return [] if found == wanted else [f"KRAMSNEP_JOB_STATUS, KRAMSNEP_CODE, KRAMSNEP_LENGTH, KRAMSNEP_SESSION_ROW, KRAMSNEP_ROWS_VISITED, KRAMSNEP_CONFIG_NUMBER, KRAMSNEP_TRAY_DONE and KRAMSNEP_TRAY_BYTES give {found}, not {wanted}"]
 
 
 def version():
@@ -599,7 +645,7 @@ def main():
     if sys.argv[1:] != ["--check"]:
         sys.exit(__doc__)
     failed = False
-    for test in (alone, hooking, prototypes, in_one_place, numbers, nothing_missing, oem_and_names, around, table, comments, store_file, configuration, crc, jobs, parts, version):
+    for test in (alone, hooking, prototypes, in_one_place, numbers, nothing_missing, oem_and_names, around, table, comments, store_file, configuration, tray, crc, jobs, parts, version):
         faults = test()
         failed |= bool(faults)
         print("\n".join(f"header, {test.__name__}: {fault}" for fault in faults) or f"header, {test.__name__}: as defined")

@@ -87,7 +87,7 @@ def in_place(folder):
 def example(folder):
     """The C examples, alone in a folder, so that nothing but the flags can lead to header and archive."""
     _, words = flags(installed(folder / "opt", folder)[2])
-    for name in ("upload", "backup", "config"):
+    for name in ("upload", "backup", "config", "tray"):
         shutil.copy(EXAMPLE / f"{name}.c", folder)
         done = run([*os.environ.get("CC", "cc").split(), "-std=c99", "-Wall", "-Wextra", "-Werror", f"{name}.c", *words, "-o", name], folder)
         expect(f"{name} builds", (done.returncode, done.stderr), (0, ""))

@@ -1,5 +1,5 @@
 #!/bin/sh
-# Builds upload.c, backup.c and config.c against the library and compares what each prints with its .expected; then gives upload a name that the library refuses,
+# Builds upload.c, backup.c, config.c and tray.c against the library and compares what each prints with its .expected; then gives upload a name that the library refuses,
 # which it must notice, and compares with refused.expected. Run anywhere; first `rt staticlib capi`.
 set -eu
 unset CDPATH
@@ -9,7 +9,7 @@ library=target/staticlib/libcapi.a
 out=$(mktemp -d)
 trap 'rm -rf "$out"' EXIT
 trap 'exit 1' INT TERM HUP # so that the folder is removed then too
-for program in upload backup config; do
+for program in upload backup config tray; do
   ${CC:-cc} -std=c99 -Wall -Wextra -Wpedantic -Werror -O2 -Iinclude "examples/c/$program.c" "$library" -o "$out/$program"
   "$out/$program" >"$out/printed"
   diff "examples/c/$program.expected" "$out/printed"

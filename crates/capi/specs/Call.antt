@@ -1,13 +1,14 @@
 -- What a call from C leaves: its result, and every word and byte that was lent to it.
 use mathlib.Core.Bool.{Bool, cond, _&&_, _||_}
 use mathlib.Core.List.{List}
-use Prim.Native.Nat.{ℕ, _/_, _%_, _^_}
+use Prim.Native.Nat.{ℕ, _/_, _%_}
 use lib.Dec.{eqb, ltb}
 use Rattle.protocol.specs.Numbers.{invalid, notSound}
 use Rattle.state.specs.State.{State, stateOf}
 use Rattle.state.specs.Soundness.{isSound}
 use Rattle.state.specs.declared.Control.{Control}
 use Rattle.rules.specs.Respond.{Effect, jobOutcome, Served, served}
+use Rattle.tray.specs.Tray.{codeUnit, Tray, tray}
 use Rattle.store_file.specs.Saved.{Call, savedInto}
 use Rattle.store_file.specs.Loaded.{Loaded, loaded}
 use Rattle.visits.specs.Visits.{Looked}
@@ -74,15 +75,7 @@ respondedWith v = record { code = v .code; len = v .len; memory = memoryOf (v .s
 unfoldable pub responded : ℕ → List ℕ → Memory → List ℕ → Responded
 responded t m l a = cond (controlFits (l .control)) (respondedWith (served t m (stateIn l) a)) (record { code = notSound; len = 0; memory = l; answer = a })
 
--- a result holds the completion code in its lowest byte, and the response length above it (rule 19.4)
-abbrev pub codeUnit : ℕ
-codeUnit = 256
-
--- every length in a result is below this
-abbrev pub lengthLimit : ℕ
-lengthLimit = 2 ^ 24
-
--- what such a result says, with what was lent (rule 19.4)
+-- what a result says, with what was lent (rule 19.4)
 abbrev pub resultOf : ℕ → Memory → List ℕ → Responded
 resultOf r l a = record { code = r % codeUnit; len = r / codeUnit; memory = l; answer = a }
 
@@ -135,13 +128,13 @@ unfoldable pub loadedCall : List ℕ → Memory → Reported
 loadedCall f l = cond (controlFits (l .control)) (loadedWith (loaded f (stateIn l))) (keptWith notSound l)
 
 -- ---- a lookup
--- in the result of a lookup the row fills the byte above the code, and the number of rows visited stands above both (rule 25.4)
-abbrev pub visitUnit : ℕ
-visitUnit = 65536
+-- in a result of two numbers the first fills the byte above the code, and the second stands above both (rules 25.4 and 30.8)
+abbrev pub secondUnit : ℕ
+secondUnit = 65536
 
--- what such a result says (rule 25.4)
+-- what the result of a lookup says: the row, and the number of rows visited (rule 25.4)
 abbrev pub lookupIn : ℕ → Looked
-lookupIn r = record { code = r % codeUnit; row = r / codeUnit % codeUnit; visits = r / visitUnit }
+lookupIn r = record { code = r % codeUnit; row = r / codeUnit % codeUnit; visits = r / secondUnit }
 
 -- ---- a flash configuration
 -- the most that fits beside the code into 64 bits (rule 28.6)
@@ -155,3 +148,26 @@ configIn r f = outcome (r % codeUnit) (r / codeUnit) f
 -- a number that does not fit is told as the most that does (rule 28.6)
 abbrev pub fitted : Outcome → Outcome
 fitted o = outcome (o .code) (cond (ltb numberMost (o .number)) numberMost (o .number)) (o .fields)
+
+-- ---- a tray
+-- completion code, messages done, bytes of their responses, memory, responses and results
+pub record TrayCall : Type 0 where
+  pub code : ℕ
+  pub done : ℕ
+  pub len : ℕ
+  pub memory : Memory
+  pub responses : List ℕ
+  pub results : List ℕ
+
+abbrev pub trayCallWith : Tray → TrayCall
+trayCallWith v = record { code = v .code; done = v .done; len = v .len; memory = memoryOf (v .state); responses = v .responses; results = v .results }
+
+-- THE C FUNCTION `kramsnep_tray`: what the library makes of the tray, where the control block's words are one; else FF, and all is as found (rule 30.8)
+unfoldable pub trayCall : (records : List ℕ) → Memory → (responses results : List ℕ) → TrayCall
+trayCall b l a w =
+    cond (controlFits (l .control)) (trayCallWith (tray b (stateIn l) a w))
+    (record { code = notSound; done = 0; len = 0; memory = l; responses = a; results = w })
+
+-- what its result says, with what was lent (rule 30.8)
+abbrev pub trayIn : ℕ → Memory → (responses results : List ℕ) → TrayCall
+trayIn r l a w = record { code = r % codeUnit; done = r / codeUnit % codeUnit; len = r / secondUnit; memory = l; responses = a; results = w }

@@ -16,7 +16,8 @@ use Rattle.store_file.specs.Saved.{savedInto}
 use Rattle.store_file.specs.Loaded.{loaded}
 use Rattle.capi_control.specs.Words.{controlFits, controlOf, wordsOf}
 use Rattle.capi_control.specs.Laws.{words-control}
-use Rattle.capi.specs.Call.{Memory, stateIn, memoryOf, Responded, respondedWith, responded, codeUnit, resultOf, reportedWith, keptWith, jobGood, isVerdict, reported, partOf, savedCall, loadedWith, loadedCall}
+use Rattle.tray.specs.Tray.{codeUnit}
+use Rattle.capi.specs.Call.{Memory, stateIn, memoryOf, Responded, respondedWith, responded, resultOf, reportedWith, keptWith, jobGood, isVerdict, reported, partOf, savedCall, loadedWith, loadedCall}
 
 -- the memory l with other control words
 abbrev withControl : Memory → List ℕ → Memory

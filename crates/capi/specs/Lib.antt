@@ -1,3 +1,4 @@
 pub mod Call
 pub mod Laws
+pub mod TrayLaws
 pub mod Zeros
