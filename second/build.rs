@@ -2,7 +2,7 @@
 //! The file is `../target/staticlib/libcapi.a` beside this package, or the one named by `KRAMSNEP_STATICLIB`.
 //!
 //! The library may bring a runtime of its own (a panic handler, say) whose names collide with those of this binary. So
-//! it is first made into one object in which only its six functions are visible. Where the tools for that are missing,
+//! it is first made into one object in which only its seven functions are visible. Where the tools for that are missing,
 //! it is linked as it is.
 
 use std::env;
@@ -10,13 +10,14 @@ use std::ffi::OsStr;
 use std::path::{Path, PathBuf};
 use std::process::Command;
 
-const FUNCTIONS: [&str; 6] = [
+const FUNCTIONS: [&str; 7] = [
     "kramsnep_respond",
     "kramsnep_job_outcome",
     "kramsnep_save_part",
     "kramsnep_load",
     "kramsnep_find_session",
     "kramsnep_read_config",
+    "kramsnep_tray",
 ];
 
 fn main() {
@@ -47,7 +48,7 @@ fn static_library() -> PathBuf {
     PathBuf::from(package).join("../target/staticlib/libcapi.a")
 }
 
-/// Makes a static library in which only the six functions are visible.
+/// Makes a static library in which only the seven functions are visible.
 fn set_apart(file: &Path) -> Option<PathBuf> {
     let directory = PathBuf::from(env::var_os("OUT_DIR")?);
     let object = directory.join("apart.o");

@@ -9,7 +9,7 @@ impl Code {
     pub const SUCCESS: Code = Code(0x00);
     /// FF: the state is not sound, or a lent buffer has another length.
     pub const NOT_SOUND: Code = Code(0xFF);
-    /// C7: wrong length of the message or its body.
+    /// C7: wrong length of the message or its body, or a record of a tray that is cut.
     pub const LENGTH: Code = Code(0xC7);
     /// CC: a wrong OEM number, CRC, form of name, flags, length byte or verdict on a job.
     pub const FIELD: Code = Code(0xCC);
@@ -19,7 +19,7 @@ impl Code {
     pub const ABSENT: Code = Code(0xCB);
     /// C9: index of an Enumerate, offset of a Write or part of a saved store out of range.
     pub const RANGE: Code = Code(0xC9);
-    /// C8: a Write past the capacity.
+    /// C8: a Write past the capacity, or bytes behind a tray's 64th record.
     pub const CAPACITY: Code = Code(0xC8);
     /// C4: rows or slots are used up.
     pub const NO_SPACE: Code = Code(0xC4);

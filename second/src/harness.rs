@@ -197,6 +197,8 @@ pub trait Implementation {
     fn find_session(&mut self, identifier: u32, rows: u32, table: &[u32]) -> u32;
     /// Completion code + 256 × the number of entries or the place of the fault.
     fn read_config(&mut self, text: &[u8], fields: &mut [usize]) -> u64;
+    /// Completion code + 256 × the number of messages done + 65,536 × the bytes of responses.
+    fn tray(&mut self, records: &[u8], memory: &mut OwnedMemory, responses: &mut [u8], results: &mut [u32]) -> u32;
 }
 
 /// This package's implementation.
@@ -225,6 +227,10 @@ impl Implementation for Second {
 
     fn read_config(&mut self, text: &[u8], fields: &mut [usize]) -> u64 {
         crate::read_config(text, fields)
+    }
+
+    fn tray(&mut self, records: &[u8], memory: &mut OwnedMemory, responses: &mut [u8], results: &mut [u32]) -> u32 {
+        crate::tray(records, &mut memory.lend(), responses, results)
     }
 }
 

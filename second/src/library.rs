@@ -46,6 +46,16 @@ extern "C" {
 
     /// Gives the completion code + 256 × the number of entries or the place of the fault.
     fn kramsnep_read_config(text: *const u8, text_len: usize, fields: *mut usize, fields_len: usize) -> u64;
+
+    /// Gives the completion code + 256 × the number of messages done + 65,536 × the bytes of responses.
+    fn kramsnep_tray(
+        records: *const u8, records_len: usize,
+        control: *mut u32, control_len: usize, table: *mut u32, table_len: usize,
+        names: *mut u8, names_len: usize, committed: *mut u8, committed_len: usize,
+        staged: *mut u8, staged_len: usize, image: *mut u8, image_len: usize,
+        hash: *mut u8, hash_len: usize, responses: *mut u8, responses_len: usize,
+        results: *mut u32, results_len: usize,
+    ) -> u32;
 }
 
 /// The first implementation, linked as a static library.
@@ -122,5 +132,21 @@ impl Implementation for Library {
     fn read_config(&mut self, text: &[u8], fields: &mut [usize]) -> u64 {
         // As above; only the fields are written.
         unsafe { kramsnep_read_config(text.as_ptr(), text.len(), fields.as_mut_ptr(), fields.len()) }
+    }
+
+    #[rustfmt::skip]
+    fn tray(&mut self, records: &[u8], memory: &mut OwnedMemory, responses: &mut [u8], results: &mut [u32]) -> u32 {
+        let m = memory;
+        // As above; the records are only read.
+        unsafe {
+            kramsnep_tray(
+                records.as_ptr(), records.len(),
+                m.control.as_mut_ptr(), m.control.len(), m.table.as_mut_ptr(), m.table.len(),
+                m.names.as_mut_ptr(), m.names.len(), m.committed.as_mut_ptr(), m.committed.len(),
+                m.staged.as_mut_ptr(), m.staged.len(), m.image.as_mut_ptr(), m.image.len(),
+                m.hash.as_mut_ptr(), m.hash.len(), responses.as_mut_ptr(), responses.len(),
+                results.as_mut_ptr(), results.len(),
+            )
+        }
     }
 }

@@ -37,8 +37,9 @@ pub fn run(mut input: &[u8], memory: &mut Memory) -> String {
     lines
 }
 
-/// Takes one record off the front (reading 19): clock, message and what is left. `None` if the record is cut.
-fn record(input: &[u8]) -> Option<(u32, &[u8], &[u8])> {
+/// Takes one record off the front (reading 19): clock, message and what is left. `None` if the record is cut, or if there
+/// is none.
+pub fn record(input: &[u8]) -> Option<(u32, &[u8], &[u8])> {
     let (clock, rest) = input.split_first_chunk::<4>()?;
     let (length, rest) = rest.split_first()?;
     let (message, rest) = rest.split_at_checked(usize::from(*length))?;

@@ -11,7 +11,7 @@
 mod parts;
 
 use parts::tally::Tally;
-use parts::{configs, histories, lookups, merges, messages, states, store_files, unsound, Share, WORKERS};
+use parts::{configs, histories, lookups, merges, messages, states, store_files, trays, unsound, Share, WORKERS};
 use std::process::ExitCode;
 use std::sync::Mutex;
 use std::time::{Duration, Instant};
@@ -55,6 +55,19 @@ const PARTS: &[Part] = &[
     ("config rubbish", configs::rubbish),
     ("config limits", configs::limits),
     ("config lengths", configs::lengths),
+    ("tray buffers", trays::buffers),
+    ("tray stops", trays::stops),
+    ("tray cuts", trays::cuts),
+    ("trays too long", trays::many),
+    ("tray messages", trays::every_message),
+    ("tray rubbish", trays::rubbish),
+    ("tray sweeps", trays::sweeps),
+    ("tray updates", trays::updates),
+    ("broken trays", trays::broken),
+    ("damaged trays", trays::damaged),
+    ("tray lent lengths", trays::lengths),
+    ("random trays", trays::random),
+    ("trays in two", trays::in_two),
 ];
 
 /// The result of one worker's share of a part.

@@ -1,5 +1,5 @@
 //! The examples of docs/PROTOCOL.md and of document 01, four errors that are easily made, each completion code (rules
-//! 7.1-7.11), store files byte by byte, and lookups with the number of rows visited.
+//! 7.1-7.11), store files byte by byte, lookups with the number of rows visited, and trays.
 
 use second::code::Code;
 use second::crc::crc;
@@ -734,6 +734,7 @@ fn no_memory_makes_it_panic() {
         assert_eq!(Second.job_outcome(random.word(), &mut memory), 0xFF);
         assert_eq!(Second.save_part(random.word(), &mut memory, &mut vec![0; 4200]), 0xFF);
         assert_eq!(Second.load(&request, &mut memory), 0xFF);
+        assert_eq!(Second.tray(&request, &mut memory, &mut answer, &mut [0; 64]), 0xFF);
     }
 }
 
@@ -1233,4 +1234,234 @@ fn lookup_of_sessions() {
     assert_eq!(look_up(&cabinet, fourth), 0x02_01_00);
     assert_eq!(look_up(&cabinet, sessions[2]), 0x03_02_00);
     assert_eq!(look_up(&cabinet, sessions[1]), 0x03_00_CB);
+}
+
+// ---- Trays ----
+
+/// Records laid end to end.
+fn records(list: &[(u32, Vec<u8>)]) -> Vec<u8> {
+    let bytes = |(clock, message): &(u32, Vec<u8>)| {
+        let length = u8::try_from(message.len()).unwrap();
+        [&clock.to_le_bytes()[..], &[length], message].concat()
+    };
+    list.iter().flat_map(bytes).collect()
+}
+
+const UNTOUCHED: u32 = 0xEEEE_EEEE;
+
+/// What a tray gave: its result, the whole buffer and the result words. What was not written is EE throughout.
+struct Given {
+    result: u32,
+    responses: Vec<u8>,
+    results: Vec<u32>,
+}
+
+impl Given {
+    /// The result words of the messages done; all behind them are as they were lent.
+    fn words(&self) -> &[u32] {
+        let (done, kept) = self.results.split_at((self.result >> 8 & 0xFF) as usize);
+        assert!(kept.iter().all(|word| *word == UNTOUCHED));
+        done
+    }
+
+    /// The responses; all bytes behind them are as they were lent.
+    fn written(&self) -> &[u8] {
+        let (written, kept) = self.responses.split_at((self.result >> 16) as usize);
+        assert!(kept.iter().all(|byte| *byte == 0xEE));
+        written
+    }
+}
+
+/// Runs a tray in both, with a buffer of this length; the memory is brought on.
+fn tray(memory: &mut OwnedMemory, bytes: &[u8], buffer: usize) -> Given {
+    tray_with_words(memory, bytes, buffer, 64)
+}
+
+fn tray_with_words(memory: &mut OwnedMemory, bytes: &[u8], buffer: usize, words: usize) -> Given {
+    let mut other = memory.clone();
+    let (mut responses, mut results) = (vec![0xEE; buffer], vec![UNTOUCHED; words]);
+    let (mut other_responses, mut other_results) = (responses.clone(), results.clone());
+    let result = Second.tray(bytes, memory, &mut responses, &mut results);
+    let other_result = { OTHER }.tray(bytes, &mut other, &mut other_responses, &mut other_results);
+    assert_eq!(other_result, result);
+    assert_eq!((other_responses, other_results), (responses.clone(), results.clone()));
+    assert_eq!(other.difference(memory), None);
+    Given {
+        result,
+        responses,
+        results,
+    }
+}
+
+/// An Open of `/scan/a` at clock 5 and the Close of its session 0 at clock 6: responses of 8 and 4 bytes.
+#[test]
+fn tray_of_an_open_and_a_close() {
+    let mut memory = OwnedMemory::fresh();
+    let bytes = b"\x05\0\0\0\x10\xCF\xC2\0\x02\x6E\x80\x03\0/scan/a\0\x06\0\0\0\x08\xCF\xC2\0\x06\xC0\x84\0\0";
+    assert_eq!(bytes[..], records(&[(5, h::open(3, b"/scan/a")), (6, h::close(0))]));
+    let given = tray(&mut memory, bytes, 100);
+    assert_eq!(given.result, 0x000C_0200);
+    assert_eq!(given.words(), [0x08_00, 0x04_00]);
+    assert_eq!(given.written(), b"\xCF\xC2\0\x02\xC0\x84\0\0\xCF\xC2\0\x06");
+    // The name was new and never committed, so that only the next identifier is left of it.
+    let mut after = OwnedMemory::fresh();
+    after.control[NEXT_IDENTIFIER] = 1;
+    assert_eq!(memory.difference(&after), None);
+}
+
+#[test]
+fn tray_goes_on_behind_refusals() {
+    let mut memory = OwnedMemory::fresh();
+    let messages = [
+        Vec::new(),
+        vec![0xCF, 0xC2, 0x00, 0x0B],
+        vec![0xCF, 0xC2, 0x01, 0x00],
+        vec![0xCF; 65],
+        vec![0xCF; 255],
+        h::close(7),
+        h::count(),
+        h::enumerate(4),
+        h::enumerate(0),
+    ];
+    let given = tray(&mut memory, &records(&messages.map(|message| (0, message))), 100);
+    // Count sends 10 bytes; Enumerate of the base 13.
+    assert_eq!(given.result, 0x0017_0900);
+    let codes = [0xC7, 0xC1, 0xCC, 0xC7, 0xC7, 0xCB, 0x0A_00, 0xC9, 0x0D_00];
+    assert_eq!(given.words(), codes);
+    assert_eq!(given.written()[..4], [0xCF, 0xC2, 0x00, 0x00]);
+    assert_eq!(given.written()[16..], *b"/scan/\0");
+    assert_eq!(memory.difference(&OwnedMemory::fresh()), None);
+}
+
+/// Three Counts, whose responses have 10 bytes each; the next goes on only if 64 are free.
+#[test]
+fn tray_stops_below_64_free_bytes() {
+    let counts = records(&[(0, h::count()), (0, h::count()), (0, h::count())]);
+    for (buffer, result) in [
+        (0, 0),
+        (1, 0),
+        (63, 0),
+        (64, 0x000A_0100),
+        (73, 0x000A_0100),
+        (74, 0x0014_0200),
+        (83, 0x0014_0200),
+        (84, 0x001E_0300),
+        (4096, 0x001E_0300),
+        (100_000, 0x001E_0300),
+    ] {
+        let given = tray(&mut OwnedMemory::fresh(), &counts, buffer);
+        assert_eq!(given.result, result, "{buffer} bytes");
+        assert!(given.words().iter().all(|word| *word == 0x0A_00));
+        assert_eq!(given.written().len(), 10 * given.words().len());
+    }
+    // A message that would be refused is not reached either, although it needs no room.
+    assert_eq!(tray(&mut OwnedMemory::fresh(), &[0; 5], 63).result, 0);
+    assert_eq!(tray(&mut OwnedMemory::fresh(), &[0; 5], 64).result, 0x01_00);
+}
+
+/// 64 Reads of 58 bytes each fill 4,096 bytes to the last.
+#[test]
+fn tray_of_the_longest_responses() {
+    let mut cabinet = Cabinet::fresh();
+    let session = cabinet.open(3, "/scan/a");
+    cabinet.fill(session, 58);
+    let reads = records(&vec![(0, h::read(session, 0, 58)); 64]);
+    for (buffer, result) in [
+        (63, 0x0000_0000),
+        (64, 0x0040_0100),
+        (127, 0x0040_0100),
+        (128, 0x0080_0200),
+        (4095, 0x0FC0_3F00),
+        (4096, 0x1000_4000),
+        (4097, 0x1000_4000),
+    ] {
+        let given = tray(&mut cabinet.memory, &reads, buffer);
+        assert_eq!(given.result, result, "{buffer} bytes");
+        let alone = cabinet.say(&h::read(session, 0, 58)).1;
+        assert!(given.written().chunks(64).all(|response| response == alone));
+    }
+}
+
+/// Five zero bytes are a record with clock 0 and an empty message.
+#[test]
+fn c7_and_c8_of_a_tray() {
+    let zeros = [0; 400];
+    for (length, result) in [
+        (0, 0x00_00),
+        (1, 0xC7),
+        (4, 0xC7),
+        (5, 0x01_00),
+        (6, 0xC7),
+        (10, 0x02_00),
+        (314, 0xC7),
+        (315, 0x3F_00),
+        (316, 0xC7),
+        (319, 0xC7),
+        (320, 0x40_00),
+        (321, 0xC8),
+        (324, 0xC8),
+        (325, 0xC8),
+        (326, 0xC8),
+        (400, 0xC8),
+    ] {
+        let given = tray(&mut OwnedMemory::fresh(), &zeros[..length], 64);
+        assert_eq!(given.result, result, "{length} bytes");
+        assert!(given.words().iter().all(|word| *word == 0xC7));
+        // Judged before the room is looked at.
+        let stopped = tray(&mut OwnedMemory::fresh(), &zeros[..length], 0);
+        let refused = result == 0xC7 || result == 0xC8;
+        assert_eq!(stopped.result, if refused { result } else { 0 }, "{length} bytes");
+    }
+}
+
+/// An Open that would be accepted is not reached if a later record is cut, or if there is one too many.
+#[test]
+fn a_refused_tray_does_nothing() {
+    let opens = records(&vec![(5, h::open(3, b"/scan/a")); 65]);
+    for (length, code) in [(20, 0xC7), (22, 0xC7), (64 * 21 + 1, 0xC8), (opens.len(), 0xC8)] {
+        let mut memory = OwnedMemory::fresh();
+        let given = tray(&mut memory, &opens[..length], 4096);
+        assert_eq!(given.result, code, "{length} bytes");
+        assert!(given.words().is_empty() && given.written().is_empty());
+        assert_eq!(memory.difference(&OwnedMemory::fresh()), None);
+    }
+}
+
+/// Before C7 and C8, for an empty tray too, and whatever the room.
+#[test]
+fn ff_of_a_tray() {
+    let mut damaged = OwnedMemory::fresh();
+    damaged.table[63] = 1;
+    let trays: [&[u8]; 4] = [&[], &[0; 5], &[0; 6], &[0; 321]];
+    for bytes in trays {
+        for buffer in [0, 64, 4096] {
+            assert_eq!(tray(&mut damaged, bytes, buffer).result, 0xFF);
+            for words in [0, 1, 63, 65, 128] {
+                let given = tray_with_words(&mut OwnedMemory::fresh(), bytes, buffer, words);
+                assert_eq!(given.result, 0xFF, "{words} words");
+                assert_eq!(given.results, vec![UNTOUCHED; words]);
+                assert!(given.written().is_empty());
+            }
+        }
+    }
+}
+
+/// Session 0 has the stamp 100 when it is opened; an Open at 700 keeps it, one at 701 closes it. The clock then goes
+/// back, which neither sweeps nor brings it back.
+#[test]
+fn a_sweep_within_a_tray() {
+    for (clock, stat) in [(700, 0x0D_00), (701, 0xCB)] {
+        let mut memory = OwnedMemory::fresh();
+        memory.control[LAST_SWEEP] = 90;
+        let list = [
+            (100, h::open(3, b"/scan/a")),
+            (clock, h::open(2, b"/flash/cleanup")),
+            (5, h::session_stat(0)),
+            (5, h::close(1)),
+        ];
+        let given = tray(&mut memory, &records(&list), 4096);
+        assert_eq!(given.words(), [0x08_00, 0x08_00, stat, 0x04_00]);
+        assert_eq!(memory.control[LAST_SWEEP], clock);
+        assert_eq!(memory.control[ROWS_USED], u32::from(stat == 0x0D_00));
+    }
 }

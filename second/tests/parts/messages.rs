@@ -48,7 +48,7 @@ fn on_lively_states(share: Share, states: u64, what: &str, send_all: fn(&mut Tri
 }
 
 /// A state with at least one session on a store slot, and the names and identifiers to use.
-fn lively_state(random: &mut Random) -> OwnedMemory {
+pub fn lively_state(random: &mut Random) -> OwnedMemory {
     loop {
         let state = random_sound_state(random);
         let rows = state.used_rows();
@@ -130,7 +130,7 @@ pub fn every_subcommand(share: Share) -> Tally {
 }
 
 /// A message of each kind that is accepted, or for WriteMeta refused only as not supported.
-fn good_messages(random: &mut Random, state: &OwnedMemory) -> Vec<Vec<u8>> {
+pub fn good_messages(random: &mut Random, state: &OwnedMemory) -> Vec<Vec<u8>> {
     let rows = state.used_rows();
     let writing: Vec<usize> = rows
         .into_iter()

@@ -14,6 +14,8 @@ pub mod pair;
 pub mod states;
 pub mod store_files;
 pub mod tally;
+pub mod tray_checks;
+pub mod trays;
 pub mod unsound;
 
 use pair::Pair;

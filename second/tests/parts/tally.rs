@@ -7,10 +7,11 @@ use std::collections::BTreeMap;
 pub const FRAME: usize = 11;
 pub const OUTCOME: usize = 12;
 pub const FIND_SESSION: usize = 13;
-pub const SAVE_PART: usize = 14;
-pub const LOAD: usize = 15;
-pub const READ_CONFIG: usize = 16;
-pub const COMMANDS: [&str; 17] = [
+pub const TRAY: usize = 14;
+pub const SAVE_PART: usize = 15;
+pub const LOAD: usize = 16;
+pub const READ_CONFIG: usize = 17;
+pub const COMMANDS: [&str; 18] = [
     "Count",
     "Enumerate",
     "Open",
@@ -25,6 +26,7 @@ pub const COMMANDS: [&str; 17] = [
     "(frame)",
     "Job outcome",
     "Find session",
+    "Tray",
     "Save part",
     "Load",
     "Read config",
@@ -38,12 +40,20 @@ pub const FILE_CODES: [u8; 14] = [
 pub const CONFIG_CODES: [u8; 9] = [0x00, 0xFF, 0xF1, 0xF2, 0xF3, 0xF4, 0xF5, 0xF6, 0xF7];
 /// Each code of a configuration is to come up so many times.
 const LEAST_CONFIGS: u64 = 2_000;
+/// So is each code of a tray.
+const LEAST_TRAYS: u64 = 1_000;
+const TRAY_CODES: [u8; 4] = [0x00, 0xFF, 0xC7, 0xC8];
+/// Comparisons of trays that are to be made so many times.
+const LEAST_COMPARED: [(&str, u64); 2] = [
+    ("Tray: message like a single call", 100_000),
+    ("Tray: cut in two like the whole", 1_000),
+];
 /// The faults of a file in the order in which the later ones are looked for.
 pub const FAULTS: [u8; 10] = [0xE1, 0xE2, 0xE3, 0xE4, 0xE5, 0xE6, 0xE7, 0xE8, 0xE9, 0xEA];
 
 /// Which codes each command may give, by the rules. "(frame)" are messages that reach no subcommand up to 10: too
 /// short or too long (C7), another OEM number (CC), a subcommand over 10 (C1).
-pub const ALLOWED: [&[u8]; 17] = [
+pub const ALLOWED: [&[u8]; 18] = [
     &[0x00, 0xFF, 0xC7],
     &[0x00, 0xFF, 0xC7, 0xCC, 0xC9],
     &[0x00, 0xFF, 0xC7, 0xCC, 0xCB, 0xC0, 0xC4],
@@ -58,6 +68,7 @@ pub const ALLOWED: [&[u8]; 17] = [
     &[0xFF, 0xC7, 0xCC, 0xC1],
     &[0x00, 0xFF, 0xCC, 0xD5],
     &[0x00, 0xFF, 0xCB],
+    &TRAY_CODES,
     &[0x00, 0xFF, 0xC9],
     &[
         0x00, 0xFF, 0xE0, 0xE1, 0xE2, 0xE3, 0xE4, 0xE5, 0xE6, 0xE7, 0xE8, 0xE9, 0xEA,
@@ -221,6 +232,48 @@ pub const SITUATIONS: &[&str] = &[
     "Read config: refused for the fields, a good text",
     "Read config: refused for the fields, a bad text",
     "Read config: a fault where the text before it goes on",
+    "Tray: no record",
+    "Tray: no record, no free byte",
+    "Tray: all of 64 done",
+    "Tray: 64 responses of 64 bytes",
+    "Tray: full to the last byte",
+    "Tray: stopped before the first",
+    "Tray: stopped before the 64th",
+    "Tray: stopped at 63 free bytes",
+    "Tray: stopped without a free byte",
+    "Tray: stopped before a message that is refused",
+    "Tray: went on at 64 free bytes",
+    "Tray: went on at 65 free bytes",
+    "Tray: accepted behind a refusal",
+    "Tray: behind a message of 65 bytes",
+    "Tray: behind a message of 255 bytes",
+    "Tray: on a session opened in the tray",
+    "Tray: clock earlier than the one before",
+    "Tray: sweep",
+    "Tray: sweep that closes a session",
+    "Tray: sweep of a refused Open",
+    "Tray: second sweep",
+    "Tray: job started",
+    "Tray: not sound, empty",
+    "Tray: not sound, cut",
+    "Tray: not sound, past the 64th",
+    "Tray: not sound, good",
+    "Tray: other results, empty",
+    "Tray: other results, cut",
+    "Tray: other results, past the 64th",
+    "Tray: other results, good",
+    "Tray: cut in the clock",
+    "Tray: cut before the length",
+    "Tray: cut before the message",
+    "Tray: cut in the message",
+    "Tray: cut in the first",
+    "Tray: cut in the 64th",
+    "Tray: one byte behind the 64th",
+    "Tray: 65 whole records",
+    "Tray: 66 whole records",
+    "Tray: C7 without a free byte",
+    "Tray: C8 without a free byte",
+    "Tray: cut in two, both with messages done",
 ];
 
 /// One situation for every two faults in one file.
@@ -234,6 +287,11 @@ pub fn offends_twice(one: &str, other: &str) -> String {
     format!("Read config: {first} beside {second}")
 }
 
+/// One situation for every code that a message of each command can get within a tray.
+pub fn in_tray(command: usize, code: u8) -> String {
+    format!("Tray: {} with {code:02X}", COMMANDS[command])
+}
+
 /// All situations to be reached.
 fn situations() -> Vec<String> {
     let mut situations: Vec<String> = SITUATIONS.iter().map(|name| name.to_string()).collect();
@@ -243,6 +301,12 @@ fn situations() -> Vec<String> {
     for (place, one) in KINDS.iter().enumerate() {
         situations.extend(KINDS[place + 1..].iter().map(|other| offends_twice(one, other)));
     }
+    for (command, codes) in ALLOWED.iter().enumerate().take(FRAME + 1) {
+        // A tray on a state that is not sound reaches none of its messages.
+        let reached = codes.iter().filter(|code| **code != 0xFF);
+        situations.extend(reached.map(|code| in_tray(command, *code)));
+    }
+    situations.extend(LEAST_COMPARED.map(|(name, _)| name.to_string()));
     situations
 }
 
@@ -341,13 +405,27 @@ impl Tally {
                 }
             }
         }
-        let number = |code: &u8| self.codes[READ_CONFIG][usize::from(*code)];
-        let rare = CONFIG_CODES.iter().filter(|code| number(code) < LEAST_CONFIGS);
-        gaps.extend(rare.map(|code| format!("Read config with code {code:02X}: only {}", number(code))));
+        gaps.extend(self.rare_codes(READ_CONFIG, LEAST_CONFIGS));
+        gaps.extend(self.rare_codes(TRAY, LEAST_TRAYS));
+        gaps.extend(self.rare_comparisons());
         let missing = situations().into_iter();
         let missing = missing.filter(|name| !self.situations.contains_key(name));
         gaps.extend(missing.map(|name| format!("situation not reached: {name}")));
         gaps
+    }
+
+    /// The codes of a command that came up fewer than so many times.
+    fn rare_codes(&self, command: usize, least: u64) -> Vec<String> {
+        let number = |code: &u8| self.codes[command][usize::from(*code)];
+        let rare = ALLOWED[command].iter().filter(|code| number(code) < least);
+        rare.map(|code| format!("{} with code {code:02X}: only {}", COMMANDS[command], number(code)))
+            .collect()
+    }
+
+    fn rare_comparisons(&self) -> Vec<String> {
+        let number = |name: &str| *self.situations.get(name).unwrap_or(&0);
+        let rare = LEAST_COMPARED.iter().filter(|(name, least)| number(name) < *least);
+        rare.map(|(name, _)| format!("{name}: only {}", number(name))).collect()
     }
 }
 

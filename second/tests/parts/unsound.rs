@@ -51,7 +51,8 @@ pub fn damaged(share: Share) -> Tally {
     })
 }
 
-fn damage(random: &mut Random, state: &mut OwnedMemory) {
+/// Changes one word or byte.
+pub fn damage(random: &mut Random, state: &mut OwnedMemory) {
     match random.below(9) {
         0..=2 => damage_word(random, &mut state.control),
         3..=5 => damage_word(random, &mut state.table),
@@ -132,7 +133,8 @@ fn one_length(pair: &mut Pair, generator: &mut Generator, state: &OwnedMemory, s
     pair.answer_length = 64;
 }
 
-fn resize<T: Clone + Default>(list: &mut Vec<T>, how: u64, any: usize) {
+/// One short, one long, empty, or of this length.
+pub fn resize<T: Clone + Default>(list: &mut Vec<T>, how: u64, any: usize) {
     let length = match how {
         0 => list.len() - 1,
         1 => list.len() + 1,
