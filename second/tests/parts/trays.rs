@@ -8,7 +8,7 @@ use super::messages::{good_messages, lively_state};
 use super::pair::{run, Pair, Step};
 use super::tally::Tally;
 use super::tray_checks::{call, check, check_whole, Alone, Left, Lent, Record, Tray, MOST, ROOM, WHOLE_BUFFER};
-use super::unsound::{damage, resize};
+use super::unsound::{damage, resize_slice};
 use super::Share;
 use second::harness::{self, near, random_sound_state, Implementation, OwnedMemory, Random, Second, OTHER};
 use second::message;
@@ -617,15 +617,7 @@ fn refused_for_a_length(
 fn with_other_length(random: &mut Random, state: &OwnedMemory, slice: u64, how: u64) -> OwnedMemory {
     let mut other = state.clone();
     let any = random.below(200) as usize;
-    match slice {
-        0 => resize(&mut other.control, how, any),
-        1 => resize(&mut other.table, how, any),
-        2 => resize(&mut other.names, how, any),
-        3 => resize(&mut other.committed, how, any),
-        4 => resize(&mut other.staged, how, any),
-        5 => resize(&mut other.image, how, any),
-        _ => resize(&mut other.hash, how, any),
-    }
+    resize_slice(&mut other, slice, how, any);
     other
 }
 

@@ -92,7 +92,8 @@ pub fn lengths(share: Share) -> Tally {
         } else {
             random_sound_state(&mut generator.random)
         };
-        for slice in 0..8 {
+        // Behind the slices of the state comes the answer buffer.
+        for slice in 0..=SLICES {
             for how in 0..4 {
                 one_length(pair, &mut generator, &state, slice, how, seed);
             }
@@ -103,19 +104,12 @@ pub fn lengths(share: Share) -> Tally {
 fn one_length(pair: &mut Pair, generator: &mut Generator, state: &OwnedMemory, slice: u64, how: u64, seed: u64) {
     let mut other = state.clone();
     let any = generator.random.below(200) as usize;
-    match slice {
-        0 => resize(&mut other.control, how, any),
-        1 => resize(&mut other.table, how, any),
-        2 => resize(&mut other.names, how, any),
-        3 => resize(&mut other.committed, how, any),
-        4 => resize(&mut other.staged, how, any),
-        5 => resize(&mut other.image, how, any),
-        6 => resize(&mut other.hash, how, any),
-        _ => {
-            let mut answer = vec![0; 64];
-            resize(&mut answer, how, any);
-            pair.answer_length = answer.len();
-        }
+    if slice < SLICES {
+        resize_slice(&mut other, slice, how, any);
+    } else {
+        let mut answer = vec![0; 64];
+        resize(&mut answer, how, any);
+        pair.answer_length = answer.len();
     }
     let exact = &other == state && pair.answer_length == 64;
     pair.start(&other, &format!("length of slice {slice}, way {how}, seed {seed:#X}"));
@@ -124,13 +118,29 @@ fn one_length(pair: &mut Pair, generator: &mut Generator, state: &OwnedMemory, s
         let step = generator.of_kind(kind, state);
         let code = pair.step(&step);
         // Only messages have an answer buffer.
-        let no_message = slice == 7 && kind >= OUTCOME;
+        let no_message = slice == SLICES && kind >= OUTCOME;
         assert!(
             exact || no_message || code == 0xFF,
             "length of slice {slice}, way {how}, seed {seed:#X}"
         );
     }
     pair.answer_length = 64;
+}
+
+/// The slices that a state is lent in.
+const SLICES: u64 = 7;
+
+/// One slice of a state, by its number in the order in which they are lent, becomes one short, one long, empty, or of this length.
+pub fn resize_slice(memory: &mut OwnedMemory, slice: u64, how: u64, any: usize) {
+    match slice {
+        0 => resize(&mut memory.control, how, any),
+        1 => resize(&mut memory.table, how, any),
+        2 => resize(&mut memory.names, how, any),
+        3 => resize(&mut memory.committed, how, any),
+        4 => resize(&mut memory.staged, how, any),
+        5 => resize(&mut memory.image, how, any),
+        _ => resize(&mut memory.hash, how, any),
+    }
 }
 
 /// One short, one long, empty, or of this length.
