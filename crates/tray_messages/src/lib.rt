@@ -20,7 +20,7 @@ use state::Control;
 use tray_form::TRAY_MOST;
 
 // The completion code fills the lowest byte of a result, the response length stands above it.
-const CODE_UNIT: u32 = 256;
+pub const CODE_UNIT: u32 = 256;
 
 // The completion code, how many messages were done, how long their responses are together, and the control block after them.
 pub struct Answered {
