@@ -68,6 +68,7 @@ const PARTS: &[Part] = &[
     ("tray lent lengths", trays::lengths),
     ("random trays", trays::random),
     ("trays in two", trays::in_two),
+    ("trays gone on with", trays::going_on),
 ];
 
 /// The result of one worker's share of a part.

@@ -181,14 +181,14 @@ module _ (b : List ℕ) (s : State) (a w : List ℕ) where
       let d = doneIn (length a) qs s in
       let x = as-singly (length a) qs s in
       subst (DoneSingly b s a w) (sym (tray-done b s a w (sym (code-is b s a w) ∙ h))) (record {
-        within = x .within;
+        within = x .begins .within;
         why-stopped = x .why-stopped;
         had-room = x .had-room;
         len-fits = x .fits;
-        state-is = x .state-is;
-        results-are = take-append-seam (d .results) (drop (length (d .results)) w) ∙ x .results-are;
+        state-is = x .begins .state-is;
+        results-are = take-append-seam (d .results) (drop (length (d .results)) w) ∙ x .begins .results-are;
         results-kept = drop-append-seam (d .results) (drop (length (d .results)) w);
-        responses-are = take-append-seam (d .responses) (drop (length (d .responses)) a) ∙ x .responses-are;
+        responses-are = take-append-seam (d .responses) (drop (length (d .responses)) a) ∙ x .begins .responses-are;
         responses-kept = drop-append-seam (d .responses) (drop (length (d .responses)) a);
         each = λ (k : ℕ) (l : k < length (d .results)). in-buffers a w l (message-done (length a) qs s k l);
       })
@@ -199,7 +199,7 @@ module _ (b : List ℕ) (s : State) (a w : List ℕ) where
       let qs = messagesIn b in
       let n = length (doneIn (length a) qs s .results) in
       tray-has b s a w (λ (r : Tray). isSound (r .state) ≡ true)
-      (λ _. ap isSound (as-singly (length a) qs s .state-is) ∙ run-sound (singly (take n qs)) s h)
+      (λ _. ap isSound (as-singly (length a) qs s .begins .state-is) ∙ run-sound (singly (take n qs)) s h)
       (λ _. h)
 
   -- the buffer for the responses stays as long as it is (rule 21.30)
@@ -218,7 +218,7 @@ module _ (b : List ℕ) (s : State) (a w : List ℕ) where
       (λ (h : trayCode b s w ≡ success).
       let r : Ready s w = tray-codes b s a w .accepted .0 (code-is b s a w ∙ h) .0 in
       length-front w (d .results) (length (d .results))
-      (sym (length-take-le (length (d .results)) w (omega (arith, r .1, as-singly (length a) (messagesIn b) s .within, requests-most trayMost b)))))
+      (sym (length-take-le (length (d .results)) w (omega (arith, r .1, as-singly (length a) (messagesIn b) s .begins .within, requests-most trayMost b)))))
       (λ _. refl)
 
   -- no tray does more than 64 messages, nor has more than 4,096 bytes of responses (rule 21.31)
@@ -228,7 +228,7 @@ module _ (b : List ℕ) (s : State) (a w : List ℕ) where
       let x = as-singly (length a) qs s in
       let m = requests-most trayMost b in
       tray-has b s a w (λ (r : Tray). (r .done ≤ trayMost) × (r .len ≤ trayMost * answerSize))
-      (λ _. (omega (arith, x .within, m), omega (arith, x .within, x .at-most, m)))
+      (λ _. (omega (arith, x .begins .within, m), omega (arith, x .begins .within, x .at-most, m)))
       (λ _. (omega arith, omega arith))
 
   -- 4,096 FREE BYTES ARE ENOUGH FOR EVERY TRAY: 64 for each of the messages that it may have (rule 21.31)
@@ -241,7 +241,7 @@ module _ (b : List ℕ) (s : State) (a w : List ℕ) where
       go : Dec (length (doneIn (length a) (messagesIn b) s .results) < length (messagesIn b)) → AsSingly (length a) (messagesIn b) s (doneIn (length a) (messagesIn b) s)
           → length (doneIn (length a) (messagesIn b) s .results) ≡ length (messagesIn b)
       go (yes n) x = absurd (omega (arith, x .why-stopped n, x .at-most, requests-most trayMost b))
-      go (no n) x = omega (arith, x .within)
+      go (no n) x = omega (arith, x .begins .within)
 
   -- WITH 64 FREE BYTES A TRAY GOES ON: it does one of its messages at least (rule 21.31)
   pub one-done : tray b s a w .code ≡ success → answerSize ≤ length a → 0 < length (messagesIn b) → 0 < tray b s a w .done

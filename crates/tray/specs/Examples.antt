@@ -1,7 +1,7 @@
 -- Trays that are opened and closed in one call, with room for both, for one and for none; one with a refused message; and trays that are refused. Assumes nothing.
 use mathlib.Core.Path.{_≡_, refl, sym, _∙_, ap}
 use mathlib.Core.Bool.{true}
-use mathlib.Core.List.{List, [], _∷_, _++_}
+use mathlib.Core.List.{List, [], _∷_, _++_, flatMap}
 use Prim.Native.Nat.{ℕ, zero, suc, _-_, _≤_, _<_}
 use native.Mathlib.Omega.{arith}
 use lib.ListN.{length, take, drop, replicate}
@@ -29,6 +29,7 @@ use Rattle.records.specs.Samples.{emptyRecord, openMessage, openRecord, closeMe
 use Rattle.tray.specs.Tray.{trayMost, messagesIn, trayForm, Done, doneFirst, doneIn, trayDone, tray}
 use Rattle.tray.specs.Steps.{done-none, done-full, done-one}
 use Rattle.tray.specs.Call.{asFound, accepted-is, tray-done, tray-codes, refused-tray}
+use Rattle.tray.specs.GoingOn.{goingOn, together, sentSingly, reaches-end}
 
 -- ---- the messages
 -- an Open and the Close of its session, in one tray
@@ -142,6 +143,21 @@ room-for-one a w h g l =
 -- FEWER THAN 64: nothing is done, and the code is 00 (rule 30.7)
 pub room-for-none : (a w : List ℕ) → length a < 64 → length w ≡ trayMost → tray openAndClose fresh a w ≡ asFound success fresh a w
 room-for-none a w h l = ran openAndClose a w _ _ both-form both-messages l (done-full (length a) ((1, openMessage) ∷ (2, closeMessage) ∷ []) fresh h)
+
+-- one message, and single calls behind it
+sent-first : (t : ℕ) (m : List ℕ) (qs : List Timed) (s : State) (o : Effect) → respond t m s ≡ o → sentSingly ((t, m) ∷ qs) s ≡ doneFirst o (sentSingly qs (o .state))
+unfolding flatMap
+sent-first t m qs s o e = ap (λ (x : Effect). doneFirst x (sentSingly qs (x .state))) e
+
+-- IN TWO CALLS, with 64 bytes each: the first does the Open and stops, or both; together they do both (rule 21.33)
+pub in-two-calls : (a w c v : List ℕ) → 64 ≤ length a → 64 ≤ length c → length w ≡ trayMost → length v ≡ trayMost
+    → together (goingOn ((a, w) ∷ (c, v) ∷ []) openAndClose fresh) fresh ≡ record { results = 2048 ∷ 1024 ∷ []; responses = openResponse ++ closeResponse; state = imageClosed }
+unfolding flatMap
+in-two-calls a w c v ha hc hw hv =
+    reaches-end ((a, w) ∷ (c, v) ∷ []) openAndClose fresh fresh-sound both-form (hw, (hv, tt)) (ha, (hc, tt)) (omega (arith, ap length both-messages))
+    ∙ ap (λ (qs : List Timed). sentSingly qs fresh) both-messages
+    ∙ sent-first 1 openMessage ((2, closeMessage) ∷ []) fresh openEffect opened
+    ∙ ap (doneFirst openEffect) (sent-first 2 closeMessage [] imageOpen closeEffect closed)
 
 three-form : trayForm (emptyRecord ++ openAndClose) ≡ success
 unfolding trayForm requestsIn bytesIn

@@ -5,4 +5,5 @@ pub mod Form
 pub mod Singly
 pub mod Call
 pub mod CutInTwo
+pub mod GoingOn
 pub mod Examples

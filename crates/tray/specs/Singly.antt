@@ -51,8 +51,9 @@ bytesBefore k qs s = length (endToEnd (answersTo (take k qs) s))
 abbrev pub callOf : (k : ℕ) → List Timed → State → Effect
 callOf k qs s = respond (getD qs k (0, []) .0) (getD qs k (0, []) .1) (stateAfter (take k qs) s)
 
--- ---- what is done of the messages qs from the state s, with so many free bytes
-pub record AsSingly (free : ℕ) (qs : List Timed) (s : State) (d : Done) : Type 0 where
+-- ---- what is done of the messages qs from the state s
+-- a beginning of them, by single calls
+pub record Beginning (qs : List Timed) (s : State) (d : Done) : Type 0 where
   -- no message more than there are
   pub within : length (d .results) ≤ length qs
   -- code and length of each, as single calls give them, whatever codes those before it had (rules 30.4 and 30.6)
@@ -61,6 +62,10 @@ pub record AsSingly (free : ℕ) (qs : List Timed) (s : State) (d : Done) : Type
   pub responses-are : d .responses ≡ endToEnd (answersTo (take (length (d .results)) qs) s)
   -- the state after so many single calls (rule 30.4)
   pub state-is : d .state ≡ stateAfter (take (length (d .results)) qs) s
+
+-- with so many free bytes
+pub record AsSingly (free : ℕ) (qs : List Timed) (s : State) (d : Done) : Type 0 where
+  pub begins : Beginning qs s d
   -- there were 64 free bytes before each message that is done (rule 30.7)
   pub had-room : (k : ℕ) → k < length (d .results) → answerSize ≤ free - bytesBefore k qs s
   -- and there are not before the first that is not (rule 30.7)
@@ -70,14 +75,16 @@ pub record AsSingly (free : ℕ) (qs : List Timed) (s : State) (d : Done) : Type
   -- none has more than 64 bytes
   pub at-most : length (d .responses) ≤ answerSize * length (d .results)
 
+-- no message at all is one
+pub none-begun : (qs : List Timed) (s : State) → Beginning qs s (nothingDone s)
+unfolding flatMap
+none-begun qs s = record { within = omega arith; results-are = refl; responses-are = refl; state-is = refl }
+
 -- AS MANY SINGLE CALLS: whatever the messages, the state and the free bytes are (rule 21.27)
 pub as-singly : (free : ℕ) (qs : List Timed) (s : State) → AsSingly free qs s (doneIn free qs s)
 unfolding doneIn flatMap
 as-singly free [] s = record {
-  within = omega arith;
-  results-are = refl;
-  responses-are = refl;
-  state-is = refl;
+  begins = none-begun [] s;
   had-room = λ (k : ℕ) (h : k < 0). absurd (omega arith);
   why-stopped = λ (h : 0 < 0). absurd (omega arith);
   fits = omega arith;
@@ -103,20 +110,19 @@ as-singly free (q ∷ qs) s = go (leb answerSize free) refl (as-singly (free - l
         let l = leb-true answerSize free p in
         let e = length-append (o .response) (d .responses) in
         let f = response-fits (q .0) (q .1) s in record {
-          within = omega (arith, r .within);
-          results-are = ap (λ (x : List ℕ). resultWord o ∷ x) (r .results-are);
-          responses-are = ap (λ (x : List ℕ). o .response ++ x) (r .responses-are);
-          state-is = r .state-is;
+          begins = record {
+            within = omega (arith, r .begins .within);
+            results-are = ap (λ (x : List ℕ). resultWord o ∷ x) (r .begins .results-are);
+            responses-are = ap (λ (x : List ℕ). o .response ++ x) (r .begins .responses-are);
+            state-is = r .begins .state-is;
+          };
           had-room = room r l;
           why-stopped = λ (h : suc (length (d .results)) < suc (length qs)). omega (arith, r .why-stopped (omega arith));
           fits = omega (arith, r .fits);
           at-most = omega (arith, r .at-most);
         }
     go false p r = record {
-      within = omega arith;
-      results-are = refl;
-      responses-are = refl;
-      state-is = refl;
+      begins = none-begun (q ∷ qs) s;
       had-room = λ (k : ℕ) (h : k < 0). absurd (omega arith);
       why-stopped = λ (h : 0 < suc (length qs)). omega (arith, leb-false answerSize free p);
       fits = omega arith;
@@ -128,7 +134,7 @@ no-more : {free : ℕ} {qs : List Timed} {s : State} {d e : Done} → AsSingly f
 no-more {free} {qs} {s} {d} {e} x y = go (decLt (length (d .results)) (length (e .results)))
   where
     go : Dec (length (d .results) < length (e .results)) → length (e .results) ≤ length (d .results)
-    go (yes h) = absurd (let l = ap length (x .responses-are) in omega (arith, x .why-stopped (omega (arith, y .within)), y .had-room (length (d .results)) h))
+    go (yes h) = absurd (let l = ap length (x .begins .responses-are) in omega (arith, x .why-stopped (omega (arith, y .begins .within)), y .had-room (length (d .results)) h))
     go (no h) = omega arith
 
 -- AND IN NO OTHER WAY: single calls and the free bytes determine how many are done, and all of what is done (rule 21.27)
@@ -136,9 +142,9 @@ pub only-singly : (free : ℕ) (qs : List Timed) (s : State) (d : Done) → AsSi
 only-singly free qs s d x =
     let y = as-singly free qs s in
     let n : length (d .results) ≡ length (doneIn free qs s .results) = omega (arith, no-more x y, no-more y x) in
-    let p = x .results-are ∙ ap (λ (k : ℕ). map packed (answersTo (take k qs) s)) n ∙ sym (y .results-are) in
-    let q = x .responses-are ∙ ap (λ (k : ℕ). endToEnd (answersTo (take k qs) s)) n ∙ sym (y .responses-are) in
-    let r = x .state-is ∙ ap (λ (k : ℕ). stateAfter (take k qs) s) n ∙ sym (y .state-is) in
+    let p = x .begins .results-are ∙ ap (λ (k : ℕ). map packed (answersTo (take k qs) s)) n ∙ sym (y .begins .results-are) in
+    let q = x .begins .responses-are ∙ ap (λ (k : ℕ). endToEnd (answersTo (take k qs) s)) n ∙ sym (y .begins .responses-are) in
+    let r = x .begins .state-is ∙ ap (λ (k : ℕ). stateAfter (take k qs) s) n ∙ sym (y .begins .state-is) in
     λ i. record { results = p i; responses = q i; state = r i }
 
 -- ---- one message of them

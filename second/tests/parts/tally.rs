@@ -44,9 +44,10 @@ const LEAST_CONFIGS: u64 = 2_000;
 const LEAST_TRAYS: u64 = 1_000;
 const TRAY_CODES: [u8; 4] = [0x00, 0xFF, 0xC7, 0xC8];
 /// Comparisons of trays that are to be made so many times.
-const LEAST_COMPARED: [(&str, u64); 2] = [
+const LEAST_COMPARED: [(&str, u64); 3] = [
     ("Tray: message like a single call", 100_000),
     ("Tray: cut in two like the whole", 1_000),
+    ("Tray: stopped and gone on with like the whole", 300),
 ];
 /// The faults of a file in the order in which the later ones are looked for.
 pub const FAULTS: [u8; 10] = [0xE1, 0xE2, 0xE3, 0xE4, 0xE5, 0xE6, 0xE7, 0xE8, 0xE9, 0xEA];

@@ -1,6 +1,6 @@
 //! Trays: buffers of every length, every place where a tray may stop, every cut, messages of every length, sweeps and
-//! clocks that run backward, flash updates, what is refused, any messages, and trays cut in two. `tray_checks` says what
-//! must hold of each.
+//! clocks that run backward, flash updates, what is refused, any messages, trays cut in two, and calls that go on where
+//! the one before stopped. `tray_checks` says what must hold of each.
 
 use super::breakers::BREAKERS;
 use super::generator::{Generator, Profile, PROFILES};
@@ -29,6 +29,7 @@ const LENT_STATES: u64 = 20;
 const HISTORIES: u64 = 96;
 const TRAYS_OF_HISTORY: u64 = 50;
 const IN_TWO: u64 = 120;
+const GOING_ON: u64 = 600;
 
 // ---- States and records ----
 
@@ -763,5 +764,55 @@ fn same_in_two(
     pair.tally.situation("Tray: cut in two like the whole");
     if done_first < whole.done() && whole.done() > 0 && done_first > 0 {
         pair.tally.situation("Tray: cut in two, both with messages done");
+    }
+}
+
+// ---- Going on where a call stopped ----
+
+/// A tray in as many calls as its buffers ask for, each with the records that the one before did not do and a buffer of
+/// its own: together they do what one call with room for everything does.
+pub fn going_on(share: Share) -> Tally {
+    share.run(share.of(GOING_ON), |pair, place, seed| {
+        let profile = PROFILES[(place % PROFILES.len() as u64) as usize];
+        let mut maker = Maker::new(seed, profile);
+        pair.tally.states += 1;
+        let mut records = maker.records().0;
+        records.truncate(MOST);
+        let random = &mut maker.generator.random;
+        pair.note(&format!("going on, seed {seed:#X}"));
+        let whole = check_whole(pair, random, &maker.state, &records);
+        let largest = random.pick(&[64, 70, 200, 1_000]);
+        same_going_on(pair, random, &maker.state, &records, largest, &whole);
+    })
+}
+
+/// Buffers from 1 byte short of a longest response up to the largest.
+fn same_going_on(
+    pair: &mut Pair,
+    random: &mut Random,
+    state: &OwnedMemory,
+    records: &[Record],
+    largest: u64,
+    whole: &Left,
+) {
+    let (mut memory, mut left) = (state.clone(), records);
+    let (mut words, mut sent): (Vec<u32>, Vec<u8>) = (Vec::new(), Vec::new());
+    let mut stops = 0;
+    while !left.is_empty() {
+        let room = random.between(ROOM as u64 - 1, largest) as usize;
+        let next = check(pair, &Tray::whole(left), &Lent::new(random, &memory, room));
+        assert_eq!(next.done() > 0, room >= ROOM, "{}: goes on with 64 bytes", pair.place());
+        words.extend(&next.lent.results[..next.done()]);
+        sent.extend(&next.lent.responses[..next.written()]);
+        left = &left[next.done()..];
+        memory = next.lent.memory;
+        stops += usize::from(!left.is_empty());
+    }
+    let place = pair.place();
+    assert_eq!(words, whole.lent.results[..whole.done()], "{place}: results");
+    assert_eq!(sent, whole.lent.responses[..whole.written()], "{place}: responses");
+    assert_eq!(memory.difference(&whole.lent.memory), None, "{place}: states");
+    if stops > 0 {
+        pair.tally.situation("Tray: stopped and gone on with like the whole");
     }
 }
