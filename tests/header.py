@@ -26,7 +26,7 @@ import tempfile
 ROOT = pathlib.Path(__file__).resolve().parent.parent
 HEADER = ROOT / "include" / "kramsnep.h"
 PREFIX = "KRAMSNEP_"
-SPECS = ("protocol/specs/Numbers", "protocol/specs/Decode", "protocol/specs/Names", "rules/specs/Messages", "crc/specs/Crc", "capi_control/specs/Words", "capi/specs/Call",
+SPECS = ("protocol/specs/Numbers", "protocol/specs/Decode", "protocol/specs/Names", "rules/specs/Messages", "crc/specs/Crc", "capi_control/specs/Words", "capi_calls/specs/Call",
          "store_file/specs/Messages", "store_file/specs/Saved", "json/specs/Grammar", "config/specs/Profile", "config/specs/Fields", "records/specs/Records", "tray/specs/Tray")
 CODE = ("protocol", "state", "crc", "open_sweep", "capi_control", "capi", "store_file", "store_writer", "run_store", "config_profile", "config_reader", "records", "tray_form")
 C_TYPES = {"u8": "uint8_t", "u32": "uint32_t", "u64": "uint64_t", "usize": "size_t"}
@@ -159,7 +159,7 @@ def record_places(known):
 
 def told_by(definition, fields, result, known):
     """What these fields are, by a definition of Call.antt that takes results apart, for one of them."""
-    said = re.search(rf"(?ms)^{definition} r\b.*?(?=\n\n|\Z)", text_of("capi/specs/Call.antt")).group()
+    said = re.search(rf"(?ms)^{definition} r\b.*?(?=\n\n|\Z)", text_of("capi_calls/specs/Call.antt")).group()
     found = [re.findall(rf"\b{field} = ([^;}}]+?)\s*[;}}]", said) for field in fields]
     if any(len(one) != 1 for one in found):
         sys.exit(f"Call.antt: {definition} no longer gives each of {', '.join(fields)} once")

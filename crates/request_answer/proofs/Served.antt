@@ -5,7 +5,7 @@ use mathlib.Core.List.{List}
 use Prim.Native.Nat.{ℕ}
 use native.Mathlib.Omega.{arith}
 use lib.Dec.{eqb}
-use borrow.Author.Tests.{eq-eqb, eqb-true}
+use borrow.Author.Tests.{eqb-true}
 use lib.ListN.{length}
 use Rattle.laws.specs.All.{and-true}
 use Rattle.protocol.specs.Numbers.{notSound, answerSize}
@@ -15,7 +15,7 @@ use Rattle.protocol.specs.declared.Request.{Request}
 use Rattle.state.specs.State.{State}
 use Rattle.state.specs.Soundness.{isSound}
 use Rattle.rules.specs.Respond.{Effect, effectOf, unsound, answered, respond, Served, servedWith, served}
-use Rattle.rules.specs.Laws.{respond-is}
+use Rattle.rules.specs.Laws.{respond-is, served-is}
 use Rattle.request_serve.specs.Serves.{readied, ready-over}
 use Rattle.request_answer.specs.Call.{answerable}
 
@@ -43,10 +43,6 @@ has-size s a h = eqb-true (length a) answerSize (and-true (isSound s) (eqb (leng
 
 -- ---- an answer
 module _ (t : ℕ) (m : List ℕ) (s : State) (a : List ℕ) (h : length a ≡ answerSize) where
-  pub buffer-right : served t m s a ≡ servedWith (respond t m s) a
-  unfolding served
-  buffer-right = ap (λ (y : Bool). servedWith (cond y (respond t m s) (unsound s)) a) (eq-eqb (length a) answerSize h)
-
   -- what the command answered and left, b being the answer buffer after it, is written into the answer buffer
   module _ (g : isSound s ≡ true) (q : Request) (e : q ≡ decoded m) (r : Reply) (s′ : State) (b : List ℕ) (ready : ((r, s′), b) ≡ readied q t m s a)
       (number : ℕ) (named : number ≡ numberOf q) where
@@ -61,7 +57,7 @@ module _ (t : ℕ) (m : List ℕ) (s : State) (a : List ℕ) (h : length a ≡ a
 
     pub answers : (code len : ℕ) (z : List ℕ) → code ≡ framed number r .0 → len ≡ length (framed number r .1) → z ≡ answerAfter number r b
         → record { code = code; len = len; state = s′; answer = z } ≡ served t m s a
-    answers code len z ec el ez = whole ∙ sym (buffer-right ∙ ap (λ (o : Effect). servedWith o a) (respond-is t m s g))
+    answers code len z ec el ez = whole ∙ sym (served-is t m s a h ∙ ap (λ (o : Effect). servedWith o a) (respond-is t m s g))
       where
         answer-is : z ≡ laid (framed (numberOf (decoded m)) (answered (decoded m) t m s .0) .1) a
         answer-is =

@@ -6,8 +6,8 @@ use mathlib.Core.Option.{Option, none, some}
 use Prim.Native.Nat.{ℕ, _+_, _≤_, _<_, max}
 use native.Mathlib.Omega.{arith}
 use lib.Dec.{leb}
-use borrow.Author.Tests.{leb-true, le-leb, lt-leb}
-use Rattle.protocol.specs.Numbers.{rowWords, tooLong, outOfRange}
+use borrow.Author.Tests.{eq-eqb, leb-true, le-leb, lt-leb}
+use Rattle.protocol.specs.Numbers.{rowWords, tooLong, outOfRange, answerSize}
 use Rattle.protocol.specs.Decode.{decoded, numberOf}
 use Rattle.protocol.specs.Frame.{framed}
 use Rattle.state.specs.State.{State, Row, inRow, placeOf, inBody, cell}
@@ -16,7 +16,7 @@ use Rattle.state.specs.Soundness.{isSound}
 use Rattle.rules.specs.Command.{endJob, Out, refuse, placed, Command}
 use Rattle.state.specs.declared.row.Wanted.the-variants.{OnFlash}
 use Rattle.rules.specs.Session.{onSession, onRow, onPart}
-use Rattle.rules.specs.Respond.{effectOf, unsound, answered, respond, silent, jobOutcome}
+use Rattle.rules.specs.Respond.{effectOf, unsound, answered, respond, silent, jobOutcome, servedWith, served}
 use mathlib.Core.Logic.{_≢_}
 use Rattle.state.specs.Words.{blob, wordOf, stampOf, flagsIn, statusIn, statusOf, cleanOf, wordWith, stamped, withStatus, status-with}
 use Rattle.rules.specs.Checks.{someOr, noneOr, whether}
@@ -28,6 +28,11 @@ pub respond-is : (t : ℕ) (m : List ℕ) (s : State) → isSound s ≡ true →
 unfolding respond
 respond-is t m s h =
     ap (λ (y : Bool). cond y (effectOf (framed (numberOf (decoded m)) (answered (decoded m) t m s .0)) (answered (decoded m) t m s .1)) (unsound s)) h
+
+-- the library's function, with an answer buffer of its size
+pub served-is : (t : ℕ) (m : List ℕ) (s : State) (a : List ℕ) → length a ≡ answerSize → served t m s a ≡ servedWith (respond t m s) a
+unfolding served
+served-is t m s a h = ap (λ (y : Bool). servedWith (cond y (respond t m s) (unsound s)) a) (eq-eqb (length a) answerSize h)
 
 -- a job outcome in a sound state
 pub job-is : (good : Bool) (s : State) → isSound s ≡ true → jobOutcome good s ≡ effectOf (silent (onSession OnFlash 0 (endJob good) s .0)) (onSession OnFlash 0 (endJob good) s .1)

@@ -14,9 +14,9 @@ use Rattle.protocol.specs.Frame.{laid}
 use Rattle.state.specs.State.{State}
 use Rattle.state.specs.Soundness.{isSound}
 use Rattle.rules.specs.Respond.{respond, Served, served}
+use Rattle.rules.specs.Laws.{served-is}
 use Rattle.guarantees.specs.Fits.{response-fits}
 use Rattle.request_answer.specs.Call.{answerable}
-use Rattle.request_answer.proofs.Served.{buffer-right}
 use Rattle.tray_messages.specs.Call.{servedAt}
 
 -- the free bytes from `at` on that are lent for one response
@@ -48,7 +48,7 @@ module _ (a : List ℕ) (at : ℕ) (room : at + answerSize ≤ length a) where
   pub answered-at : (t : ℕ) (m : List ℕ) (s : State) {u : Served} → u ≡ served t m s (lent a at)
       → record { code = u .code; len = u .len; state = u .state; answer = putMid at (at + answerSize - at) a (u .answer) } ≡ servedAt (respond t m s) a at
   answered-at t m s e =
-      ap (λ (v : Served). record { code = v .code; len = v .len; state = v .state; answer = putMid at (at + answerSize - at) a (v .answer) }) (e ∙ buffer-right t m s (lent a at) lent-size)
+      ap (λ (v : Served). record { code = v .code; len = v .len; state = v .state; answer = putMid at (at + answerSize - at) a (v .answer) }) (e ∙ served-is t m s (lent a at) lent-size)
       ∙ (λ i. record {
         code = respond t m s .code;
         len = length (respond t m s .response);

@@ -17,7 +17,7 @@ use Rattle.store_file.specs.Loaded.{loaded}
 use Rattle.capi_control.specs.Words.{controlFits, controlOf, wordsOf}
 use Rattle.capi_control.specs.Laws.{words-control}
 use Rattle.tray.specs.Tray.{codeUnit}
-use Rattle.capi.specs.Call.{Memory, stateIn, memoryOf, Responded, respondedWith, responded, resultOf, reportedWith, keptWith, jobGood, isVerdict, reported, partOf, savedCall, loadedWith, loadedCall}
+use Rattle.capi_calls.specs.Call.{Memory, stateIn, memoryOf, Responded, respondedWith, responded, resultOf, reportedWith, keptWith, jobGood, isVerdict, reported, partOf, savedCall, loadedWith, loadedCall}
 
 -- the memory l with other control words
 abbrev withControl : Memory → List ℕ → Memory

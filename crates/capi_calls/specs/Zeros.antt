@@ -10,8 +10,8 @@ use Rattle.state.specs.Soundness.{isSound}
 use Rattle.state.specs.Fresh.{fresh-sound}
 use Rattle.rules.specs.Respond.{served}
 use Rattle.capi_control.specs.Words.{controlSize, controlFits, controlOf}
-use Rattle.capi.specs.Call.{Memory, memory, stateIn, memoryOf, respondedWith, responded}
-use Rattle.capi.specs.Laws.{memory-state}
+use Rattle.capi_calls.specs.Call.{Memory, memory, stateIn, memoryOf, respondedWith, responded}
+use Rattle.capi_calls.specs.Laws.{memory-state}
 
 -- zeros in every word and byte that is lent
 abbrev pub zeroed : Memory

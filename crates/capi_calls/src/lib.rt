@@ -1,0 +1,1 @@
+// What each call from C leaves: definitions. There is no code.
