@@ -708,16 +708,21 @@ impl Maker {
     }
 }
 
+/// A state with its maker, and records for it that a tray can hold.
+fn taken_records(pair: &mut Pair, place: u64, seed: u64) -> (Maker, Vec<Record>) {
+    let mut maker = Maker::new(seed, PROFILES[(place % PROFILES.len() as u64) as usize]);
+    pair.tally.states += 1;
+    let mut records = maker.records().0;
+    records.truncate(MOST);
+    (maker, records)
+}
+
 // ---- Trays cut in two ----
 
 /// A tray, and the same records in two, the second lent what the first left: they leave the same.
 pub fn in_two(share: Share) -> Tally {
     share.run(share.of(IN_TWO), |pair, place, seed| {
-        let profile = PROFILES[(place % PROFILES.len() as u64) as usize];
-        let mut maker = Maker::new(seed, profile);
-        pair.tally.states += 1;
-        let mut records = maker.records().0;
-        records.truncate(MOST);
+        let (mut maker, records) = taken_records(pair, place, seed);
         let buffer = maker.buffer(&records);
         let lent = Lent::new(&mut maker.generator.random, &maker.state, buffer);
         let context = format!("tray in two, seed {seed:#X}");
@@ -773,11 +778,7 @@ fn same_in_two(
 /// its own: together they do what one call with room for everything does.
 pub fn going_on(share: Share) -> Tally {
     share.run(share.of(GOING_ON), |pair, place, seed| {
-        let profile = PROFILES[(place % PROFILES.len() as u64) as usize];
-        let mut maker = Maker::new(seed, profile);
-        pair.tally.states += 1;
-        let mut records = maker.records().0;
-        records.truncate(MOST);
+        let (mut maker, records) = taken_records(pair, place, seed);
         let random = &mut maker.generator.random;
         pair.note(&format!("going on, seed {seed:#X}"));
         let whole = check_whole(pair, random, &maker.state, &records);
