@@ -2,7 +2,7 @@
 use Rattle.std.proofs.Math.Path.{◌≡◌, refl, sym}
 use Rattle.std.proofs.Common.{◌∙◌, ap, subst, arith}
 use Rattle.std.specs.Prelude.{◌≢◌, Bool, cond, ◌&&◌, List, [], ◌∷◌, ℕ, zero, suc, ◌≤◌, ◌<◌, eqb, length, get_or, drop}
-use Rattle.std.proofs.Math.Logic.{Ne·symm}
+use Rattle.std.proofs.Math.Logic.{Ne-symm}
 use Rattle.std.proofs.Math.Bool.{true, false}
 use Rattle.std.proofs.Math.Option.{Option, none, some}
 use Rattle.std.proofs.Math.Decide.{ℕ_discrete}
@@ -152,7 +152,7 @@ row-runs s g r l t c i h = go (ℕ_discrete i r)
     go (yes e) =
         here e (part-runs (place_of (blob r s)) t c ((in_row r).get s) ((in_body (place_of (blob r s))).get s) (row-view-fits r s l.0 g.shape).four (proper-row s g r l t c)
         (sym (ap status_of (row_new s g r l out.0 out.1 (proper-row s g r l t c))) ∙ sym (ap (λ (y : ℕ). status_of ((in_row y).get (on_row r t c s).1)) e) ∙ h))
-    go (no n) = this (sym (ap status_of (other-rows r i t c s (Ne·symm n))) ∙ h)
+    go (no n) = this (sym (ap status_of (other-rows r i t c s (Ne-symm n))) ∙ h)
 
 -- ---- the sweep and Open
 -- from s to y no job of row i starts
@@ -203,7 +203,7 @@ module _ (t i : ℕ) (s : State) (g : Sound s) where
       go (yes q) = absurd (
           let z = status-with flags 0 clean hf (omega arith) hc in
           let y : status_of row ≡ running = sym (ap status_of new) ∙ sym (ap (λ (x : ℕ). status_of ((in_row x).get ((cell r p).put (row, body) s))) q) ∙ h in omega arith)
-      go (no n) = sym (ap status_of (cell-row-other r i p (row, body) s (Ne·symm n))) ∙ h
+      go (no n) = sym (ap status_of (cell-row-other r i p (row, body) s (Ne-symm n))) ∙ h
 
   flags-small : (flags : ℕ) → store_flags flags ≡ true → flags < status_unit
   flags-small flags f = go (store-flags flags f)

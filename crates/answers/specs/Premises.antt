@@ -2,7 +2,7 @@
 use Rattle.std.specs.Prelude.{◌≡◌, ◌≢◌, Bool, true, false, cond, ◌&&◌, List, [], ◌∷◌, ◌++◌, ℕ, ◌+◌, ◌≤◌, ◌<◌, eqb, ltb, length, drop, replicate}
 use Rattle.std.proofs.Math.Path.{refl}
 use Rattle.std.proofs.Common.{sym, ◌∙◌, ap, subst}
-use Rattle.std.proofs.Math.Logic.{Ne·symm}
+use Rattle.std.proofs.Math.Logic.{Ne-symm}
 use Rattle.std.proofs.Math.Option.{none, some}
 use native.Mathlib.Omega.{arith}
 use Rattle.std.proofs.Math.ListN.{length-replicate}
@@ -202,7 +202,7 @@ scan-named : slot_named moreau scanned ≡ some 0
 unfolding slot_named
 scan-named =
     first_some (holds moreau scanned) slot_count 0 (omega arith) (ap named scan-slot ∙ same_refl (padded name_size moreau))
-    (λ (k : ℕ) (l : k < slot_count) (m : k ≢ 0). ap named (scan-others (AtSlot k) (Ne·symm m)) ∙ ap (λ (h : ℕ). eqb h 1 && same (slot_at k fresh).name (padded name_size moreau)) (slot-free k))
+    (λ (k : ℕ) (l : k < slot_count) (m : k ≢ 0). ap named (scan-others (AtSlot k) (Ne-symm m)) ∙ ap (λ (h : ℕ). eqb h 1 && same (slot_at k fresh).name (padded name_size moreau)) (slot-free k))
   where
     named : Slot → Bool
     named b = eqb b.held 1 && same b.name (padded name_size moreau)

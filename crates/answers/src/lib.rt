@@ -1,1 +1,2 @@
 // Theorems on answers; there is no code.
+#![tactic(auto)]

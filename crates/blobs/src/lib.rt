@@ -1,4 +1,6 @@
 // The public library: one request, or one job outcome, on the state that the caller lends.
+#![tactic(auto)]
+
 ghost use Rattle.std.specs.Prelude.{◌≡◌, List, ℕ};
 ghost use Rattle.state.specs.State.{state_of};
 ghost use Rattle.rules.specs.Respond.{silent, job_outcome, served};

@@ -1,1 +1,2 @@
 // What each call from C leaves: definitions. There is no code.
+#![tactic(auto)]

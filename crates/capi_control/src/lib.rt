@@ -1,5 +1,7 @@
 // The control block as 40 words, for callers in other languages: rows, slots, committed, 16 committed lengths, 16 staged lengths, phase
 // (0 Idle, 1 Uploading, 2 Verified), image length, hash length, next identifier, last sweep.
+#![tactic(auto)]
+
 ghost use Rattle.std.specs.Prelude.{◌≡◌, ◌+◌, ◌≤◌, length};
 ghost use Rattle.std.proofs.lemmas.List.Edits.{sets};
 ghost use Rattle.laws.specs.Ranges.{part};

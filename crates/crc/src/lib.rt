@@ -1,4 +1,6 @@
 // CRC-16 with the polynomial 0x1021, high bit first, from a table of 256 numbers.
+#![tactic(auto)]
+
 ghost use Rattle.std.specs.Prelude.{◌≡◌, ◌*◌};
 ghost use Rattle.crc.specs.Crc.{table, shifts, byte_step, crc_from, crc};
 

@@ -1,1 +1,2 @@
 // Theorems on what messages leave and show; there is no code.
+#![tactic(auto)]

@@ -1,7 +1,7 @@
 -- What a command on an open session leaves of its row, its slot or the flash, and of each other slot; and what an Open is. Assumes nothing.
 use Rattle.std.specs.Prelude.{◌≡◌, true, List, ◌≢◌, ℕ, ◌≤◌, ◌<◌}
 use Rattle.std.proofs.Common.{◌∙◌, ap, subst, arith}
-use Rattle.std.proofs.Math.Logic.{Ne·symm}
+use Rattle.std.proofs.Math.Logic.{Ne-symm}
 use Rattle.protocol.specs.Numbers.{slot_count, open_command}
 use Rattle.protocol.specs.Names.{kind_of}
 use Rattle.protocol.specs.Decode.{decoded, number_of}
@@ -61,7 +61,7 @@ module _ (s : State) (g : Sound s) (r : ℕ) (l : Live r s) (t : ℕ) (c : Comma
   -- every other slot is as it was
   pub other-slot : (k : ℕ) → k < slot_count → k ≢ blob r s → slot_at k (on_row r t c s).1 ≡ slot_at k s
   other-slot k h n = cell-body-other r (place_of (blob r s)) (AtSlot k) (on_part (place_of (blob r s)) t c ((in_row r).get s) ((in_body (place_of (blob r s))).get s)).1 s
-      (subst (λ (w : Place). Separate (place_of (blob r s)) w) (place-slot k h) (blobs-apart (blob r s) k (Ne·symm n) (λ (x : slot_count ≤ blob r s) (y : slot_count ≤ k). omega arith)))
+      (subst (λ (w : Place). Separate (place_of (blob r s)) w) (place-slot k h) (blobs-apart (blob r s) k (Ne-symm n) (λ (x : slot_count ≤ blob r s) (y : slot_count ≤ k). omega arith)))
 
 -- ---- an Open
 -- a message that asks for one, in a sound state

@@ -3,7 +3,7 @@
 use Rattle.std.proofs.Math.Path.{◌≡◌, refl, sym, ap}
 use Rattle.std.proofs.Common.{◌∙◌, subst, true≢false}
 use Rattle.std.specs.Prelude.{◌≢◌, Bool, not, cond, ◌&&◌, ◌||◌, List, [], ◌∷◌, ◌++◌, ℕ, zero, suc, ◌+◌, ◌≤◌, ◌<◌, drop}
-use Rattle.std.proofs.Math.Logic.{Ne·symm}
+use Rattle.std.proofs.Math.Logic.{Ne-symm}
 use Rattle.std.proofs.Math.Bool.{true, false}
 use Rattle.std.proofs.Math.Option.{Option, none, some}
 use native.Mathlib.Omega.{arith}
@@ -452,7 +452,7 @@ module _ (x : State) (g : Sound x) (r : ℕ) (fr : (r < row_count) × (((in_row 
       that (ap (λ (z : ℕ). status_of ((in_row z).get ((cell r p).put (new_row (fresh_id x) b flags clean t, body) x))) e
       ∙ ap status_of (row_put r p (new_row (fresh_id x) b flags clean t, body) x fr.0 g.shape.table-size (record { four = refl; flag = omega arith })) ∙ new-status (fresh_id x) b flags clean t hf hc)
   new-row-either p body q (no n) l =
-      let e = cell-row-other r q p (new_row (fresh_id x) b flags clean t, body) x (Ne·symm n) in
+      let e = cell-row-other r q p (new_row (fresh_id x) b flags clean t, body) x (Ne-symm n) in
       this ((l.0, sym (ap (λ (z : Row). z.used) e) ∙ l.1), e)
 
   opening-slot : (k : ℕ) (body : Slot) → Opening x (opened (AtSlot k) r b flags clean t body x).1

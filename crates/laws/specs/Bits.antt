@@ -1,7 +1,7 @@
 -- One bit of a mask: read, set and cleared, by recursion on its place, and as code does it by shifts and masks. Assumes nothing.
 use Rattle.std.specs.Prelude.{◌≡◌, refl, ◌≢◌, ℕ, zero, suc, ◌+◌, ◌*◌, ◌-◌, ◌/◌, ◌%◌, ◌^◌, ◌<◌, set}
 use Rattle.std.proofs.Common.{sym, ◌∙◌, ap, pow-suc, mod-eq_of_lt, arith, pow_pos}
-use Rattle.std.proofs.Math.Logic.{Ne·symm}
+use Rattle.std.proofs.Math.Logic.{Ne-symm}
 use Rattle.std.proofs.Math.Nat.{pow-succ', div-div-eq-div-mul}
 use Rattle.std.specs.Int.Bits.{bit_and, bit_or, and_step, or_step, or_zero_r}
 use Rattle.std.proofs.lemmas.Nat.{and_mask}
@@ -118,6 +118,6 @@ bits i = record { get = bit i; put = put_bit i }
 pub bits-indep : (i j : ℕ) → i ≢ j → Indep (bits i) (bits j)
 bits-indep i j h = record {
   sees = λ (b m : ℕ). bit-put-other i j b m h;
-  seen = λ (b m : ℕ). bit-put-other j i b m (Ne·symm h);
+  seen = λ (b m : ℕ). bit-put-other j i b m (Ne-symm h);
   swap = λ (b c m : ℕ). put-comm i j b c m h;
 }

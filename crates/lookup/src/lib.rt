@@ -1,4 +1,6 @@
 // What is looked up: the row of a session, the slot of a store name, the set bit of a number, the identifier for a new session. (Free places: `state::mask::lowest_free`.)
+#![tactic(auto)]
+
 ghost use Rattle.std.specs.Prelude.{◌≡◌, ℕ, ◌+◌, ◌*◌, ◌≤◌, ◌<◌, length, get_or};
 ghost use Rattle.std.specs.Int.Count.{ones};
 ghost use Rattle.laws.specs.Ranges.{part, block};

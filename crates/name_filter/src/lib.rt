@@ -1,5 +1,7 @@
 // A filter of the names seen so far. Each name sets 8 of 262,144 bits, chosen by its hash. Where one of a name's bits is clear, the name is
 // new; where all are set, it may be one of those seen, and the caller compares it with them.
+#![tactic(auto)]
+
 ghost use Rattle.std.specs.Prelude.{◌≡◌, ◌<◌, length};
 ghost use Rattle.name_filter.specs.Hash.{hash_limit, hash_step, name_hash};
 ghost use Rattle.name_filter.specs.Filter.{bit_at, with_bit, place_of, seen_in, Marked};

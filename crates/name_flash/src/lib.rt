@@ -1,4 +1,6 @@
 // Which flash names are listed.
+#![tactic(auto)]
+
 ghost use Rattle.std.specs.Prelude.{◌≡◌};
 ghost use Rattle.rules.specs.Opening.{flash_listed};
 

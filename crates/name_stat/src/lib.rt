@@ -1,4 +1,6 @@
 // Stat.
+#![tactic(auto)]
+
 ghost use Rattle.std.specs.Prelude.{◌≡◌, List, ℕ, ◌+◌, ◌<◌, ◌≤◌, length};
 ghost use Rattle.protocol.specs.Numbers.{row_count};
 ghost use Rattle.protocol.specs.Frame.{reply};

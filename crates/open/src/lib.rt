@@ -1,4 +1,6 @@
 // Open: the sweep, then by what the name names.
+#![tactic(auto)]
+
 ghost use Rattle.std.specs.Prelude.{◌≡◌, true, List, ℕ};
 ghost use Rattle.protocol.specs.Inside.{BlobInside};
 ghost use Rattle.state.specs.State.{state_of};

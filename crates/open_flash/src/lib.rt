@@ -1,4 +1,6 @@
 // Open of a flash name, after the sweep.
+#![tactic(auto)]
+
 ghost use Rattle.std.specs.Prelude.{◌≡◌, List, ℕ, ◌<◌};
 ghost use Rattle.protocol.specs.Numbers.{sixteen_bits};
 ghost use Rattle.state.specs.declared.row.Place.TheVariants.{AtFlash};

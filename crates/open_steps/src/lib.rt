@@ -1,4 +1,6 @@
 // The steps of Open: the row of a new session, and the slot of a new or a held name.
+#![tactic(auto)]
+
 ghost use Rattle.std.specs.Prelude.{◌≡◌, List, ℕ, ◌+◌, ◌<◌, ◌≤◌, length};
 ghost use Rattle.laws.specs.Ranges.{part};
 ghost use Rattle.protocol.specs.Numbers.{row_count, slot_count, name_most, sixteen_bits};

@@ -1,4 +1,6 @@
 // The sweep: sessions that were left open too long are closed, at most once a minute.
+#![tactic(auto)]
+
 ghost use Rattle.std.specs.Prelude.{◌≡◌, not, ◌&&◌, ◌+◌, ◌<◌, eqb, ltb, leb};
 ghost use Rattle.protocol.specs.Numbers.{row_count, sweep_every, session_life, running};
 ghost use Rattle.state.specs.State.{state_of};

@@ -1,4 +1,6 @@
 // Requests as records, one behind the other: a clock, a length byte and a message. The record at a place of a buffer.
+#![tactic(auto)]
+
 ghost use Rattle.std.specs.Prelude.{◌≡◌};
 ghost use Rattle.records.specs.Records.{record_at};
 

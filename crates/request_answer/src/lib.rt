@@ -1,4 +1,6 @@
 // One request on a state whose test is behind the caller: decoded, served, and its response written.
+#![tactic(auto)]
+
 ghost use Rattle.std.specs.Prelude.{◌≡◌};
 ghost use Rattle.state.specs.State.{state_of};
 ghost use Rattle.rules.specs.Respond.{served};

@@ -1,4 +1,6 @@
 // What a message asks.
+#![tactic(auto)]
+
 ghost use Rattle.std.specs.Prelude.{◌≡◌, true, ◌-◌, ◌≤◌, eqb, length, take, drop};
 ghost use Rattle.laws.specs.Bytes.{same};
 ghost use Rattle.crc.specs.Crc.{crc};

@@ -1,4 +1,6 @@
 // Names: equal bytes, the bytes before the first zero, store names, what a name names.
+#![tactic(auto)]
+
 ghost use Rattle.std.specs.Prelude.{◌≡◌, ℕ, ◌≤◌, length, get_or, drop};
 ghost use Rattle.laws.specs.All.{all};
 ghost use Rattle.laws.specs.Bytes.{same, text, first_zero};

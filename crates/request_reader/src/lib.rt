@@ -1,5 +1,7 @@
 // A reader of a message's body: it holds the lent bytes and the place of the next one. The functions over it are thin: each
 // takes it apart and leaves the work to a covered function on a slice and a number.
+#![tactic(auto)]
+
 ghost use Rattle.std.specs.Prelude.{◌≡◌, ◌+◌, ◌<◌, ◌≤◌, ◌^◌};
 ghost use Rattle.laws.specs.Bytes.{little};
 ghost use Rattle.request_reader.specs.Wire.{byte, le16, le32, onward, fields_of};

@@ -1,4 +1,6 @@
 // One request on a sound state: each command's code is called with what it touches.
+#![tactic(auto)]
+
 ghost use Rattle.std.specs.Prelude.{◌≡◌, true, ◌≤◌};
 ghost use Rattle.protocol.specs.Numbers.{read_most};
 ghost use Rattle.protocol.specs.Decode.{decoded};

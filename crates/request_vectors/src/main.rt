@@ -1,5 +1,7 @@
 // Decodes messages from standard input, each behind a byte that says how long it is, and writes a line for each; before them, worked
 // responses.
+#![tactic(auto)]
+
 ghost use Rattle.std.specs.Prelude.{◌≤◌, ◌<◌, length};
 
 use protocol::{Blob, Request, Subcommand};

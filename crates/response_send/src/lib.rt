@@ -1,4 +1,6 @@
 // What a command says becomes a response, at the front of the answer buffer.
+#![tactic(auto)]
+
 ghost use Rattle.std.specs.Prelude.{◌≡◌, ◌≤◌, length};
 ghost use Rattle.protocol.specs.Numbers.{read_most};
 ghost use Rattle.protocol.specs.Frame.{framed, answer_after};

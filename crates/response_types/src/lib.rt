@@ -1,4 +1,6 @@
 // What the code of a command hands back.
+#![tactic(auto)]
+
 ghost use Rattle.std.specs.Prelude.{◌≡◌};
 ghost use Rattle.response_types.specs.After.{refused_act, done_act};
 

@@ -1,1 +1,2 @@
 // Theorems about messages that are sent again stand in specs/; there is no code.
+#![tactic(auto)]

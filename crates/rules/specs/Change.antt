@@ -1,7 +1,7 @@
 -- When a change of one row and one place keeps a state sound: a command on an open session, and a new session. Assumes nothing.
 use Rattle.std.specs.Prelude.{◌≡◌, refl, ◌≢◌, ◌⊎◌, [], ◌∷◌, ℕ, ◌<◌, length}
 use Rattle.std.proofs.Common.{sym, ◌∙◌, ap, subst, inl, inr, arith}
-use Rattle.std.proofs.Math.Logic.{Ne·symm}
+use Rattle.std.proofs.Math.Logic.{Ne-symm}
 use Rattle.std.proofs.Math.Decide.{ℕ_discrete}
 use Rattle.protocol.specs.Numbers.{row_count, slot_count, row_words, sixteen_bits}
 use Rattle.state.specs.declared.row.Place.{Place}
@@ -123,7 +123,7 @@ module _ (s s' : State) (i : ℕ) (p : Place) (sound : Sound s) (c : Change s s'
       go (inl e) d = λ (z : (slot_at k s').name ≡ (slot_at l s').name).
           let m = apart k l n e in
           c.now-named k l e hk hl n a (held_was l m b) (z ∙ name-was l m)
-      go (inr m) (inl e) = λ (z : (slot_at k s').name ≡ (slot_at l s').name). c.now-named l k e hl hk (Ne·symm n) b (held_was k m a) (sym z ∙ name-was k m)
+      go (inr m) (inl e) = λ (z : (slot_at k s').name ≡ (slot_at l s').name). c.now-named l k e hl hk (Ne-symm n) b (held_was k m a) (sym z ∙ name-was k m)
       go (inr m) (inr o) = λ (z : (slot_at k s').name ≡ (slot_at l s').name).
           sound.names-differ k l hk hl n (held_was k m a) (held_was l o b) (sym (name-was k m) ∙ z ∙ name-was l o)
 
@@ -164,7 +164,7 @@ module _ (s : State) (sound : Sound s) (i : ℕ) (live : Live i s) (q : Row)
 
   -- and every other row as it was
   pub row_old : (r : ℕ) → r ≢ i → (in_row r).get put ≡ (in_row r).get s
-  row_old r n = cell-row-other i r own (q, d) s (Ne·symm n)
+  row_old r n = cell-row-other i r own (q, d) s (Ne-symm n)
 
   used-new : Live i put → q.used ≡ 1
   used-new v = sym (ap (λ (c : Row). c.used) row_new) ∙ v.1
@@ -239,7 +239,7 @@ module _ (s : State) (g : Sound s) (r : ℕ) (low : r < row_count) (free : ((in_
   pub added-sound : Sound with-new
   added-sound = change-sound s with-new r p g (record {
     new-shape = cell-shape r p (row, body) s low fits g.shape;
-    rows-kept = λ (q : ℕ) (n : q ≢ r). cell-row-other r q p (row, body) s (Ne·symm n);
+    rows-kept = λ (q : ℕ) (n : q ≢ r). cell-row-other r q p (row, body) s (Ne-symm n);
     bodies_kept = λ (w : Place) (m : Separate p w). cell-body-other r p w (row, body) s m;
     others = λ (q : ℕ) (l : Live q s) (n : q ≢ r). alone q l;
     before = λ (l : Live r s). absurd (let e : ((in_row r).get s).used ≡ 1 = l.1 in omega arith);

@@ -2,7 +2,7 @@
 use Rattle.std.specs.Prelude.{◌≡◌, ◌≢◌, true, false, List, [], ◌∷◌, ◌++◌, ℕ, ◌≤◌, ◌<◌, replicate, length}
 use Rattle.std.proofs.Math.Path.{refl, ap}
 use Rattle.std.proofs.Common.{◌∙◌, subst, sym}
-use Rattle.std.proofs.Math.Logic.{Ne·symm}
+use Rattle.std.proofs.Math.Logic.{Ne-symm}
 use native.Mathlib.Omega.{arith}
 use Rattle.std.proofs.lemmas.List.{length-replicate}
 use Rattle.laws.specs.All.{all}
@@ -145,12 +145,12 @@ module _ (name : List ℕ) (n : ℕ) where
   -- no other slot is in use
   pub other-slot : (k : ℕ) → k ≢ 0 → (slot_at k (writer name n)).held ≡ 0
   unfolding writer
-  other-slot k m = ap (λ (b : Slot). b.held) (cell-body-other 0 (AtSlot 0) (AtSlot k) (writing_row 0, written_slot name n) fresh (Ne·symm m)) ∙ slot-free k
+  other-slot k m = ap (λ (b : Slot). b.held) (cell-body-other 0 (AtSlot 0) (AtSlot k) (writing_row 0, written_slot name n) fresh (Ne-symm m)) ∙ slot-free k
 
   -- no other row is in use
   pub other_row : (r : ℕ) → r ≢ 0 → ((in_row r).get (writer name n)).used ≡ 0
   unfolding writer
-  other_row r m = ap (λ (x : Row). x.used) (cell-row-other 0 r (AtSlot 0) (writing_row 0, written_slot name n) fresh (Ne·symm m)) ∙ row-free r
+  other_row r m = ap (λ (x : Row). x.used) (cell-row-other 0 r (AtSlot 0) (writing_row 0, written_slot name n) fresh (Ne-symm m)) ∙ row-free r
 
 -- ---- two sessions: the one above on `/scan/a`, and another in row 1
 module _ (n : ℕ) (h : n ≤ slot_size) where

@@ -1,7 +1,7 @@
 -- What a sweep, and the Open after it, leave of a row and of the last sweep. Assumes nothing.
 use Rattle.std.specs.Prelude.{◌≡◌, refl, ◌≢◌, Bool, true, false, cond, ◌&&◌, List, ℕ, zero, suc, ◌+◌, ◌≤◌, ◌<◌, ◌*◌, leb, length}
 use Rattle.std.proofs.Common.{sym, ◌∙◌, ap, ap₂, subst, arith, eq-eqb, ne_eqb}
-use Rattle.std.proofs.Math.Logic.{Ne·symm}
+use Rattle.std.proofs.Math.Logic.{Ne-symm}
 use Rattle.std.proofs.Math.Decide.{ℕ_discrete}
 use Rattle.laws.specs.All.{Or, this, that}
 use Rattle.laws.specs.Ranges.{part}
@@ -140,7 +140,7 @@ module _ (t i : ℕ) (m : List ℕ) (s : State) (size : length s.sessions.table 
         ap (λ (x : ℕ). ((in_row x).get s).used) q ∙ (free-row s r e).1,
         ap (λ (x : ℕ). stamp_of ((in_row x).get ((cell r p).put (row, body) s))) q ∙ ap stamp_of (row_put r p (row, body) s (free-row s r e).0 size (record { four = refl; flag = omega arith })),
       )
-      go (no n) = this (cell-row-other r i p (row, body) s (Ne·symm n))
+      go (no n) = this (cell-row-other r i p (row, body) s (Ne-symm n))
 
   store-fine : (n : List ℕ) (flags : ℕ) → Fine (open_store n flags t s)
   store-fine n flags =

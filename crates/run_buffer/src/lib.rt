@@ -1,4 +1,6 @@
 // A run over a buffer of records: each is answered by the library, and its line is written into a text buffer.
+#![tactic(auto)]
+
 ghost use Rattle.std.specs.Prelude.{◌≡◌, ◌+◌, ◌*◌, ◌≤◌, cond, [], length, drop, replicate};
 ghost use Rattle.laws.specs.Ranges.{part};
 ghost use Rattle.protocol.specs.Numbers.{row_count, row_words, slot_count, name_size, slot_size, image_size, hash_size};

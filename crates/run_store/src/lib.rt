@@ -1,5 +1,7 @@
 // A store file, for the program: loaded before the requests, saved behind them. The functions here only move bytes between the system and the
 // library's functions; what fails is said in a line on standard error.
+#![tactic(auto)]
+
 ghost use Rattle.std.specs.Prelude.{◌≤◌, length};
 
 use libc::STDERR_FILENO;

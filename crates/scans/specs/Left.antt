@@ -2,7 +2,7 @@
 use Rattle.std.specs.Prelude.{◌≡◌, ◌≢◌, Bool, cond, ◌&&◌, List, eqb}
 use Rattle.std.proofs.Math.Path.{refl, ap}
 use Rattle.std.proofs.Common.{sym, ◌∙◌, subst}
-use Rattle.std.proofs.Math.Logic.{Ne·symm}
+use Rattle.std.proofs.Math.Logic.{Ne-symm}
 use Rattle.std.proofs.Math.Bool.{true, false}
 use Rattle.std.proofs.Math.Option.{none, some}
 use Prim.Native.Nat.{ℕ, zero, suc, ◌≤◌, ◌<◌}
@@ -147,7 +147,7 @@ module _ (n : List ℕ) (s : State) (g : Sound s) (k : ℕ) (e : slot_named n s 
   emptied = body-get-put (AtSlot k) free_slot s g.shape (at.0, freed-fits)
 
   as_before : (j : ℕ) → j ≢ k → slot_at j freed ≡ slot_at j s
-  as_before j m = (body-indep (AtSlot k) (AtSlot j) (Ne·symm m)).sees free_slot s
+  as_before j m = (body-indep (AtSlot k) (AtSlot j) (Ne-symm m)).sees free_slot s
 
   pub gone-absent : Absent n freed
   gone-absent j h u = go (ℕ_discrete j k)

@@ -2,7 +2,7 @@
 use Rattle.std.specs.Prelude.{◌≡◌, Bool, not, cond, ◌&&◌, List, [], ◌∷◌, eqb, ltb, length}
 use Rattle.std.proofs.Math.Path.{refl}
 use Rattle.std.proofs.Common.{sym, ◌∙◌, ap, subst}
-use Rattle.std.proofs.Math.Logic.{Ne·symm}
+use Rattle.std.proofs.Math.Logic.{Ne-symm}
 use Rattle.std.proofs.Math.Bool.{true, false}
 use Rattle.std.proofs.Math.Option.{Option, none, some}
 use Prim.Native.Nat.{ℕ, zero, suc, ◌≤◌, ◌<◌}
@@ -130,7 +130,7 @@ module _ (n : List ℕ) where
 
       go : Dec (k ≡ j) → Alike n (slot_at k s) (slot_at k ((cell r (AtSlot j)).put (row, body) s))
       go (yes e) = subst (λ (x : ℕ). Alike n (slot_at x s) (slot_at x ((cell r (AtSlot j)).put (row, body) s))) (sym e) (subst (Alike n (slot_at j s)) (sym now) a)
-      go (no m) = alike-eq n (slot_at k s) _ (cell-body-other r (AtSlot j) (AtSlot k) (row, body) s (Ne·symm m))
+      go (no m) = alike-eq n (slot_at k s) _ (cell-body-other r (AtSlot j) (AtSlot k) (row, body) s (Ne-symm m))
 
   -- a reply and a state in which every slot has the same committed
   abbrev Left : State → Reply × State → Type 0
@@ -185,7 +185,7 @@ module _ (n : List ℕ) where
       go : Dec (k ≡ j) → Alike n (slot_at k s) (slot_at k ((in_body (AtSlot j)).put free_slot s))
       go (yes q) = subst (λ (x : ℕ). Alike n (slot_at x s) (slot_at x ((in_body (AtSlot j)).put free_slot s))) (sym q)
           (alike-off n (slot_at j s) _ off (ap (committed_as n) gone ∙ off-mark n free_slot refl))
-      go (no m) = alike-eq n (slot_at k s) _ ((body-indep (AtSlot j) (AtSlot k) (Ne·symm m)).sees free_slot s)
+      go (no m) = alike-eq n (slot_at k s) _ ((body-indep (AtSlot j) (AtSlot k) (Ne-symm m)).sees free_slot s)
 
   delete-leaves : (b : Blob) (m : List ℕ) (s : State) → Sound s → deletes n b m ≡ false → Left s (delete_blob b m s)
   unfolding delete_blob delete_store

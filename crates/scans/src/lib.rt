@@ -1,1 +1,2 @@
 // Theorems about committed scans stand in specs/; there is no code.
+#![tactic(auto)]

@@ -1,4 +1,6 @@
 // The commands by identifier: the row is found and read, and the store's code or the flash's does the work.
+#![tactic(auto)]
+
 ghost use Rattle.std.specs.Prelude.{◌≡◌, List, ℕ, ◌≤◌, ◌<◌};
 ghost use Rattle.protocol.specs.Numbers.{slot_count, read_most};
 ghost use Rattle.state.specs.State.{state_of};

@@ -1,4 +1,6 @@
 // The commands on the flash session, whose row r the code has read as e.
+#![tactic(auto)]
+
 ghost use Rattle.std.specs.Prelude.{◌≡◌, cond, List, ℕ, ◌<◌, length, replicate};
 ghost use Rattle.protocol.specs.Numbers.{image_size, hash_size, sixteen_bits};
 ghost use Rattle.state.specs.declared.row.Place.TheVariants.{AtFlash};

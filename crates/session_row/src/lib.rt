@@ -1,4 +1,6 @@
 // What the commands on a session's row share: Write's checks, Commit's check, the state bits.
+#![tactic(auto)]
+
 ghost use Rattle.std.specs.Prelude.{◌≡◌, cond, ◌+◌, ◌≤◌, ◌<◌, length};
 ghost use Rattle.protocol.specs.Numbers.{row_count, sixteen_bits};
 ghost use Rattle.state.specs.Entry.{words_of};

@@ -1,4 +1,6 @@
 // Whether a state is sound, clause by clause in the order of document 01.
+#![tactic(auto)]
+
 ghost use Rattle.std.specs.Prelude.{◌≡◌, List, ℕ};
 ghost use Rattle.state.specs.State.{state_of};
 ghost use Rattle.state.specs.Soundness.{lent_right, values_fit, flash_fits, is_sound};

@@ -2,6 +2,8 @@
 // words, 1 the table, 2 the names, 3 the committed and 4 the staged regions; any other: the state is tested), the place and the value, lowest byte first.
 // The control words are those of the C interface: masks of rows, slots and slots committed, 16 committed and 16 staged lengths, phase, image length, hash
 // length, next identifier, last sweep. tests/sound_cases.py writes the input and the expected output.
+#![tactic(auto)]
+
 ghost use Rattle.std.specs.Prelude.{◌+◌, ◌≤◌, length};
 
 use sound::sound;

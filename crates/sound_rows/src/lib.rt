@@ -1,4 +1,6 @@
 // The soundness test's clauses on the rows of the session table.
+#![tactic(auto)]
+
 ghost use Rattle.std.specs.Prelude.{◌≡◌, List, ℕ, ◌<◌, eqb};
 ghost use Rattle.laws.specs.All.{all, pairs};
 ghost use Rattle.laws.specs.Bytes.{zeros};

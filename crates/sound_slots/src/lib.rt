@@ -1,4 +1,6 @@
 // The soundness test's clauses on the slots of the store.
+#![tactic(auto)]
+
 ghost use Rattle.std.specs.Prelude.{◌≡◌, List, ℕ, ◌+◌, ◌*◌, ◌≤◌, ◌<◌, length};
 ghost use Rattle.laws.specs.All.{all, pairs};
 ghost use Rattle.laws.specs.Bytes.{zeros, same};

@@ -1,7 +1,7 @@
 -- The parts of a state are apart from each other, and what is put into a part is found there. Assumes nothing.
 use Rattle.std.specs.Prelude.{◌≡◌, refl, ◌≢◌, List, ℕ, ◌*◌, ◌<◌, length, take}
 use Rattle.std.proofs.Common.{◌∙◌, length-set, get_or-set_same}
-use Rattle.std.proofs.Math.Logic.{Ne·symm}
+use Rattle.std.proofs.Math.Logic.{Ne-symm}
 use Rattle.std.proofs.Math.Seq.{length-sets}
 use Rattle.laws.specs.Lens.{Indep, Steady, Field, into-indep, into-steady, both-indep, both-steady, indep-sym}
 use Rattle.laws.specs.Ranges.{block, block-indep, block-fits, block-steady, range-get-put, length_part, element, element-indep, element-steady}
@@ -100,7 +100,7 @@ row-body r AtFlash = record { sees = λ (c : Row) (s : State). refl; seen = λ (
 pub cell-indep : (r q : ℕ) (p w : Place) → r ≢ q → Separate p w → Indep (cell r p) (cell q w)
 cell-indep r q p w n m =
     both-indep (in_row r) (in_body p) (cell q w)
-    (indep-sym (both-indep (in_row q) (in_body w) (in_row r) (into-indep in_sessions (row_of q) (row_of r) sessions-field (row_of-indep q r (Ne·symm n))) (indep-sym (row-body r w))))
+    (indep-sym (both-indep (in_row q) (in_body w) (in_row r) (into-indep in_sessions (row_of q) (row_of r) sessions-field (row_of-indep q r (Ne-symm n))) (indep-sym (row-body r w))))
     (indep-sym (both-indep (in_row q) (in_body w) (in_body p) (row-body q p) (indep-sym (body-indep p w m))))
 
 body-steady : (p : Place) → Steady (in_body p)

@@ -1,4 +1,6 @@
 // What the cabinet keeps by value, the sizes of what is lent to it, and small code on rows, masks and the control block.
+#![tactic(auto)]
+
 ghost use Rattle.std.specs.Prelude.{◌≡◌};
 ghost use Rattle.state.specs.Soundness.{is_idle, is_uploading, is_verified};
 

@@ -1,4 +1,6 @@
 // A store file, judged: the first reason against it.
+#![tactic(auto)]
+
 ghost use Rattle.std.specs.Prelude.{◌≡◌, ◌≤◌, length};
 ghost use Rattle.laws.specs.Bytes.{same};
 ghost use Rattle.protocol.specs.Names.{base};

@@ -1,4 +1,6 @@
 // The reader: a store file is judged, and its blobs take the place of the store.
+#![tactic(auto)]
+
 ghost use Rattle.std.specs.Prelude.{◌≡◌, List, ℕ, ◌*◌, ◌<◌, replicate};
 ghost use Rattle.protocol.specs.Numbers.{row_count, slot_count, slot_size};
 ghost use Rattle.state.specs.declared.row.Place.TheVariants.{AtSlot};

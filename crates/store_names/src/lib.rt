@@ -2,6 +2,8 @@
 // that no blob may be compared with all others: a filter says for almost every name at once that it did not come before, and only where it does
 // not is the file gone through for that name. In a large file the names are divided into classes by their hashes, and the file is gone through
 // once for each class, so that a small filter serves.
+#![tactic(auto)]
+
 ghost use Rattle.std.specs.Prelude.{◌≡◌, cond, ◌+◌, ◌-◌, ◌≤◌, ◌<◌, leb, length};
 ghost use Rattle.laws.specs.Ranges.{part};
 ghost use Rattle.store_file.specs.Loaded.{different};

@@ -1,4 +1,6 @@
 // A tray of requests in one call: state and form are tested once, then the messages are answered.
+#![tactic(auto)]
+
 ghost use Rattle.std.specs.Prelude.{◌≡◌};
 ghost use Rattle.state.specs.State.{state_of};
 ghost use Rattle.tray.specs.Tray.{tray};

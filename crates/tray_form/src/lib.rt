@@ -1,4 +1,6 @@
 // The form of a tray: up to 64 whole records, and nothing behind them.
+#![tactic(auto)]
+
 ghost use Rattle.std.specs.Prelude.{◌≡◌};
 ghost use Rattle.tray.specs.Tray.{tray_form};
 

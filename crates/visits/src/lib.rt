@@ -1,1 +1,2 @@
 // How many rows a search visits; there is no code here.
+#![tactic(auto)]

@@ -1,5 +1,6 @@
 // What stands at a place of a message in the Protocol Buffers wire encoding, as values. The definitions stand in specs/; the code that reads
 // stands in a crate above.
+#![tactic(auto)]
 
 // A base-128 number: its value and the place behind it; or none that is whole.
 #[derive(Drop)]

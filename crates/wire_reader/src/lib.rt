@@ -1,4 +1,6 @@
 // The wire format, read at a place of a lent buffer.
+#![tactic(auto)]
+
 ghost use Rattle.std.specs.Prelude.{◌≡◌, ◌≤◌, length};
 ghost use Rattle.wire.specs.Base128.{number_at};
 ghost use Rattle.wire.specs.Fields.{store_keys, fixed, value_at, field_at};
