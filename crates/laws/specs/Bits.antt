@@ -1,5 +1,5 @@
 -- One bit of a mask: read, set and cleared, by recursion on its place, and as code does it by shifts and masks. Assumes nothing.
-use Rattle.std.specs.Prelude.{◌≡◌, refl, ◌≢◌, ℕ, zero, suc, ◌+◌, ◌*◌, ◌-◌, ◌/◌, ◌%◌, ◌^◌, ◌<◌, set}
+use Rattle.std.specs.Prelude.{◌≡◌, refl, ◌≢◌, ℕ, zero, suc, ◌+◌, ◌*◌, ◌-◌, ◌/◌, ◌%◌, ◌^◌, ◌<◌}
 use Rattle.std.proofs.Common.{sym, ◌∙◌, ap, pow-suc, mod-eq_of_lt, arith, pow_pos}
 use Rattle.std.proofs.Math.Logic.{Ne-symm}
 use Rattle.std.proofs.Math.Nat.{pow-succ', div-div-eq-div-mul}
