@@ -32,7 +32,7 @@ fn matches(e: Entry, w: Wanted) -> bool
 }
 
 // What a search for a row gives: the row, and how many used rows it visited.
-#[derive(Drop)]
+#[derive(Clone, Copy)]
 pub struct RowSearch {
     pub row: Found,
     pub visits: u32,
@@ -73,7 +73,7 @@ pub fn find_row(table: &[u32], rows: u32, w: Wanted) -> Found
 }
 
 // What is said of an identifier: the completion code, the row, and how many used rows were visited.
-#[derive(Drop)]
+#[derive(Clone, Copy)]
 pub struct Lookup {
     pub code: Code,
     pub row: u32,

@@ -24,7 +24,7 @@ use state::row::kind_of;
 use state::{Control, NAME_SIZE, Phase};
 
 // A name in the list, or a number past its end.
-#[derive(Drop)]
+#[derive(Clone, Copy)]
 pub enum Listed {
     Base,
     Slot(usize),

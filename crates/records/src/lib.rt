@@ -11,7 +11,7 @@ const PREFIX_SIZE: usize = 5;
 
 // What stands at a place of the input: a whole record, whose message starts at `start` and is `len` long, before the record at `next`; a cut
 // one; or nothing.
-#[derive(Drop)]
+#[derive(Clone, Copy)]
 pub enum Record {
     Whole {
         clock: u32,

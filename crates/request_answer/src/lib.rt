@@ -14,7 +14,7 @@ use response_types::Said;
 use state::Control;
 
 // The completion code, how long the response is, and the control block after the request.
-#[derive(Drop)]
+#[derive(Clone, Copy)]
 pub struct Response {
     pub code: Code,
     pub len: usize,

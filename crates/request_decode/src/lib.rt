@@ -33,7 +33,7 @@ fn body_fits(sub: u8, n: usize) -> bool
 }
 
 // How many bytes wide the numbers of a subcommand are, in their order.
-#[derive(Drop)]
+#[derive(Clone, Copy)]
 struct Widths {
     first: usize,
     second: usize,

@@ -100,7 +100,7 @@ impl<'a> Reader<'a> {
 }
 
 // The numbers in front of a body, and the place behind them.
-#[derive(Drop)]
+#[derive(Clone, Copy)]
 pub struct Fields {
     pub crc: u32,
     pub first: u32,

@@ -11,7 +11,7 @@ use protocol::Code;
 use response_types::Said;
 
 // The completion code of a call, and how long its response is.
-#[derive(Drop)]
+#[derive(Clone, Copy)]
 pub struct Sent {
     pub code: Code,
     pub len: usize,

@@ -9,7 +9,7 @@ use state::Control;
 
 // What a command says: a refusal with its code; a success without fields; the fields of Open, of Count, of Stat and SessionStat; or `len`
 // bytes of fields that stand in the answer buffer already, behind the place of header and CRC.
-#[derive(Drop)]
+#[derive(Clone, Copy)]
 pub enum Said {
     Refused(Code),
     Done,
@@ -20,7 +20,7 @@ pub enum Said {
 }
 
 // What is said, and the control block after it.
-#[derive(Drop)]
+#[derive(Clone, Copy)]
 pub struct Act {
     pub said: Said,
     pub control: Control,

@@ -38,7 +38,7 @@ pub fn fresh() -> Control
 }
 
 // The place behind a request's line, and the control block after it.
-#[derive(Drop)]
+#[derive(Clone, Copy)]
 struct Answered {
     end: usize,
     control: Control,
@@ -88,7 +88,7 @@ fn answer_one(
 }
 
 // How long the lines are that a run wrote, how many bytes its records have, and the control block after it.
-#[derive(Drop)]
+#[derive(Clone, Copy)]
 pub struct Ran {
     pub len: usize,
     pub used: usize,

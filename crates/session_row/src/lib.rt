@@ -16,7 +16,7 @@ use state::numbers::max_u32;
 use state::row::{Entry, write_row};
 
 // What a Write comes to: a refusal with its code, or the length after it.
-#[derive(Drop)]
+#[derive(Clone, Copy)]
 pub enum Written {
     Refused(Code),
     Length(u32),

@@ -54,7 +54,7 @@ impl Status {
 }
 
 // How far an update of the flash has come.
-#[derive(Drop)]
+#[derive(Clone, Copy)]
 pub enum Phase {
     Idle,
     Uploading,
@@ -94,7 +94,7 @@ impl Phase {
 }
 
 // masks of rows used, slots used and slots committed; lengths of each slot; phase and lengths of the flash; next identifier; last sweep
-#[derive(Drop)]
+#[derive(Clone, Copy)]
 pub struct Control {
     pub rows: u32,
     pub slots: u32,

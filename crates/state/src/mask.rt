@@ -10,7 +10,7 @@ ghost use Rattle.state.specs.Answers.{option_of};
 use crate::SLOTS;
 
 // Where a search found what it looked for.
-#[derive(Drop)]
+#[derive(Clone, Copy)]
 pub enum Found {
     At(usize),
     Nothing,

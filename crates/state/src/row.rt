@@ -13,7 +13,7 @@ use crate::{CLEAN_UNIT, ROW_WORDS, SLOTS, STATUS_UNIT, Status};
 use protocol::{Flags, FlashKind};
 
 // A row by value: identifier; blob; flags, job status and clean mark in one word; stamp.
-#[derive(Drop)]
+#[derive(Clone, Copy)]
 pub struct Entry {
     pub id: u32,
     pub blob: u32,
@@ -22,14 +22,14 @@ pub struct Entry {
 }
 
 // What a session is on: a slot of the store, or the flash.
-#[derive(Drop)]
+#[derive(Clone, Copy)]
 pub enum Place {
     AtSlot(usize),
     AtFlash,
 }
 
 // The row that is looked for: the session of an identifier, the session on a blob, or the flash session.
-#[derive(Drop)]
+#[derive(Clone, Copy)]
 pub enum Wanted {
     Id(u32),
     OnBlob(u32),

@@ -50,7 +50,7 @@ pub fn store_fault(file: &[u8]) -> u8
 }
 
 // What is tested of one blob: its name, and its size.
-#[derive(Drop)]
+#[derive(Clone, Copy)]
 pub struct BlobTests {
     pub name: bool,
     pub size: bool,
@@ -70,7 +70,7 @@ fn test_blob(file: &[u8], start: usize, stop: usize) -> BlobTests
 }
 
 // What is tested of all blobs, and how many there are.
-#[derive(Drop)]
+#[derive(Clone, Copy)]
 pub struct Tests {
     pub names: bool,
     pub sizes: bool,

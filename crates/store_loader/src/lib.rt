@@ -136,7 +136,7 @@ fn fill_all(file: &[u8], control: Control, names: &mut [u8], committed: &mut [u8
 }
 
 // The completion code, and the control block after loading.
-#[derive(Drop)]
+#[derive(Clone, Copy)]
 pub struct Loading {
     pub code: Code,
     pub control: Control,

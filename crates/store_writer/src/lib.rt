@@ -89,7 +89,7 @@ fn put_slot(dst: &mut [u8], k: usize, len: usize, names: &[u8], committed: &[u8]
 }
 
 // A part's completion code, and its length in the buffer.
-#[derive(Drop)]
+#[derive(Clone, Copy)]
 pub struct Part {
     pub code: Code,
     pub len: usize,

@@ -21,7 +21,7 @@ use tray_form::TRAY_MOST;
 pub const CODE_UNIT: u32 = 256;
 
 // The completion code, how many messages were done, how long their responses are together, and the control block after them.
-#[derive(Drop)]
+#[derive(Clone, Copy)]
 pub struct Answered {
     pub code: Code,
     pub done: usize,

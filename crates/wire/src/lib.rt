@@ -3,7 +3,7 @@
 #![tactic(auto)]
 
 // A base-128 number: its value and the place behind it; or none that is whole.
-#[derive(Drop)]
+#[derive(Clone, Copy)]
 pub enum Number {
     Value { value: u64, next: usize },
     Bad,
@@ -11,7 +11,7 @@ pub enum Number {
 
 // A field: its number, its wire type, where its value starts, and the place behind it, where the next field starts; or the fault, as a completion
 // code.
-#[derive(Drop)]
+#[derive(Clone, Copy)]
 pub enum Field {
     Whole {
         number: u64,

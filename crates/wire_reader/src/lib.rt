@@ -158,7 +158,7 @@ pub fn fault_in(s: &[u8], from: usize, end: usize) -> u8
 }
 
 // A part of the buffer.
-#[derive(Drop)]
+#[derive(Clone, Copy)]
 pub struct Span {
     pub start: usize,
     pub end: usize,
