@@ -11,7 +11,7 @@ use Rattle.rules.specs.Command.{end_job}
 use Rattle.state.specs.declared.row.Wanted.TheVariants.{OnFlash}
 use Rattle.rules.specs.Session.{on_session}
 use Rattle.rules.specs.Respond.{Effect, effect_of, unsound, silent, job_outcome}
-use Rattle.rules.specs.Laws.{job_is}
+use Rattle.rules.proofs.Laws.{job_is}
 
 -- the state is not sound
 pub no-outcome : (good : Bool) (s : State) → is_sound s ≡ false → record { code = not_sound; response = []; state = s } ≡ job_outcome good s

@@ -1,4 +1,1 @@
 pub mod Call
-pub mod Laws
-pub mod TrayLaws
-pub mod Zeros

@@ -12,7 +12,7 @@ use lib.Seq.{take-suc}
 use lib.Pow.{split}
 use lib.Bits.{bit_xor, xor_comm, xor_zero_r, xor_block, xor_shifted}
 use Rattle.crc.specs.Crc.{shifts, byte_step, crc_from}
-use Rattle.crc.specs.Linear.{shifts-linear, eight-shifts-of-byte}
+use Rattle.crc.proofs.Linear.{shifts-linear, eight-shifts-of-byte}
 
 -- ---- a step by the table is a step by the rule
 

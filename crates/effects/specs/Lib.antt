@@ -1,4 +1,0 @@
-pub mod FlashAfter
-pub mod StoreAfter
-pub mod OpenAfter
-pub mod Names

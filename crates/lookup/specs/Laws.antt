@@ -24,7 +24,7 @@ use Rattle.state.specs.declared.row.Wanted.{Wanted}
 use Rattle.state.specs.declared.row.Wanted.TheVariants.{Id}
 use Rattle.rules.specs.Session.{matches, row_found}
 use Rattle.visits.specs.Visits.{rows_behind, visited, Search, searched, looked_by, table_fits, looked_up}
-use Rattle.visits.specs.Theorems.{looked-by}
+use Rattle.visits.proofs.Theorems.{looked-by}
 use Rattle.lookup.specs.declared.RowSearch.{RowSearch}
 use Rattle.lookup.specs.Search.{is_none, search_of, Nth}
 use Rattle.rules.specs.Lookup.{slot_named, after, unless, fresh_from}

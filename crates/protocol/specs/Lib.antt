@@ -1,10 +1,6 @@
 pub mod Numbers
-pub mod Sizes
 pub mod Names
 pub mod Decode
 pub mod Frame
 pub mod Cases
-pub mod Layout
 pub mod Inside
-pub mod NameForms
-pub mod Naming

@@ -1,4 +1,1 @@
 pub mod Records
-pub mod Requests
-pub mod Found
-pub mod Samples

@@ -15,7 +15,7 @@ use Rattle.protocol.specs.declared.Request.{Request}
 use Rattle.state.specs.State.{State}
 use Rattle.state.specs.Soundness.{is_sound}
 use Rattle.rules.specs.Respond.{Effect, effect_of, unsound, answered, respond, Served, served_with, served}
-use Rattle.rules.specs.Laws.{respond-is, served-is}
+use Rattle.rules.proofs.Laws.{respond-is, served-is}
 use Rattle.request_serve.specs.Serves.{readied, ready-over}
 use Rattle.request_answer.specs.Call.{answerable}
 

@@ -10,17 +10,5 @@ pub mod Open
 pub mod Named
 pub mod Listing
 pub mod Respond
-pub mod Laws
-pub mod OpenLaws
-pub mod Change
 pub mod Searches
-pub mod Identifiers
-pub mod Messages
-pub mod Situations
-pub mod Sweeping
-pub mod Examples
 pub mod Counting
-pub mod Excluded
-pub mod Committed
-pub mod Effects
-pub mod Places

@@ -10,16 +10,16 @@ use Rattle.protocol.specs.Frame.{laid}
 use Rattle.state.specs.State.{State}
 use Rattle.state.specs.Soundness.{is_sound}
 use Rattle.rules.specs.Respond.{Served, served}
-use Rattle.guarantees.specs.Keep.{respond-sound}
-use Rattle.guarantees.specs.Answer.{leaves}
+use Rattle.guarantees.proofs.Keep.{respond-sound}
+use Rattle.guarantees.proofs.Answer.{leaves}
 use Rattle.request_answer.specs.Call.{answerable}
 use Rattle.request_answer.proofs.Served.{not-able, is-sound, has-size}
 use Rattle.records.specs.Records.{clock_of, message_of, size_of, is_whole, requests}
-use Rattle.records.specs.Found.{Found, found-message}
+use Rattle.records.proofs.Found.{Found, found-message}
 use Rattle.run_lines.specs.Lines.{line_most}
 use Rattle.run_lines.proofs.Laws.{line-fits}
 use Rattle.run_output.specs.Run.{Ran, stopped, after, line_after, run_of, written_to, ran}
-use Rattle.run_output.specs.Laws.{run-full, run_none, run-whole, served-fits}
+use Rattle.run_output.proofs.Laws.{run-full, run_none, run-whole, served-fits}
 use Rattle.run_buffer.specs.Step.{Stepped, stepped}
 
 -- ---- one request: u is what the library's function left, as the code has it

@@ -23,7 +23,7 @@ use Rattle.state.specs.Soundness.{slot_at}
 use Rattle.rules.specs.Store.{on_store, read_store, read_count, seen_length, seen_bytes, write_store, stored, with_staged, commit_store, commit_writing, committed_slot, closed_slot, closed_writing, stat_store}
 use Rattle.rules.specs.Command.{Command, read, write, commit, stat, close, Out, refuse, placed, bytes_after, length_after, commit_fits, state_bits}
 use Rattle.rules.specs.Session.{on_row}
-use Rattle.protocol.specs.Sizes.{slot-size}
+use Rattle.protocol.proofs.Sizes.{slot-size}
 use Rattle.response_types.specs.declared.Said.{Said}
 use Rattle.response_types.specs.After.{reply_of, fields_laid}
 use Rattle.session_row.specs.declared.Written.{Written}

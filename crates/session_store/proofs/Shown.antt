@@ -9,7 +9,7 @@ use lib.ListN.{length}
 use Rattle.laws.specs.Ranges.{part, block, part-part, length_part}
 use Rattle.protocol.specs.Numbers.{slot_count, slot_size, read_most}
 use Rattle.rules.specs.Store.{read_count}
-use Rattle.protocol.specs.Sizes.{slot-size}
+use Rattle.protocol.proofs.Sizes.{slot-size}
 
 -- of a session of slot k that writes or not, and sees len bytes: n bytes from `from` on
 pub record Shown (k len from n : ℕ) (writing : Bool) (committed staged : List ℕ) : Type 0 where

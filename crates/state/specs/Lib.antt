@@ -5,7 +5,6 @@ pub mod Words
 pub mod Soundness
 pub mod Facts
 pub mod Agree
-pub mod Fresh
 pub mod Entry
 pub mod Answers
 pub mod Values

@@ -15,7 +15,7 @@ use Rattle.protocol.specs.Names.{base, store_name}
 use Rattle.wire.specs.declared.Field.TheVariants.{Fault}
 use Rattle.wire.specs.Fields.{store_keys, field_at}
 use Rattle.wire.specs.Walk.{Walked, walk_with, walk, last}
-use Rattle.wire.specs.Steps.{step_end, step-fault, step-on, step-inside, here-ahead, here-span}
+use Rattle.wire.proofs.Steps.{step_end, step-fault, step-on, step-inside, here-ahead, here-span}
 use Rattle.wire_reader.specs.Last.{LastIs}
 use Rattle.store_file.specs.Messages.{Scan, inside, store_in, scans_at, Reading, reading}
 use Rattle.protocol.specs.Numbers.{wrong_base, bad_name, repeated_name, long_data, many_blobs}

@@ -7,8 +7,8 @@ use Rattle.wire.specs.declared.Field.{Field}
 use Rattle.wire.specs.declared.Field.TheVariants.{Whole, Fault}
 use Rattle.wire.specs.Fields.{store_keys, field_at}
 use Rattle.wire.specs.Walk.{Item, Walked, stopped, before, onward, walk_in, walk}
-use Rattle.wire.specs.Steps.{step_end, step-fault, step-on}
-use Rattle.wire.specs.Steps as steps
+use Rattle.wire.proofs.Steps.{step_end, step-fault, step-on}
+use Rattle.wire.proofs.Steps as steps
 use Rattle.store_file.specs.Messages.{Scan, blob_field, scans_at, inside, store_in}
 use Rattle.store_file.specs.Loaded.{every}
 use Rattle.store_file.specs.Scans.{scans_from, scan_between}

@@ -12,7 +12,7 @@ use Rattle.laws.specs.All.{and-true}
 use Rattle.laws.specs.Ranges.{part, block, block-fits, block-steady, part-replicate, length_part}
 use Rattle.protocol.specs.Numbers.{success, not_sound, session_open, slot_count, slot_size, name_size}
 use Rattle.protocol.specs.Names.{store_name}
-use Rattle.protocol.specs.Naming.{name-fits}
+use Rattle.protocol.proofs.Naming.{name-fits}
 use Rattle.state.specs.declared.Control.{Control}
 use Rattle.state.specs.declared.row.Place.TheVariants.{AtSlot}
 use Rattle.state.specs.State.{State, state_of, in_store, in_body}
@@ -24,7 +24,7 @@ use Rattle.store_file.specs.Messages.{Scan, store_in, scans_at, reading}
 use Rattle.store_file.specs.Loaded.{every, store_open, reason, slot_with, filled_from, stored, refused, loaded}
 use Rattle.store_file.specs.Storable.{Storable, storable}
 use Rattle.store_file.specs.Scans.{scans_from, scan_between}
-use Rattle.wire.specs.Steps.{here-within}
+use Rattle.wire.proofs.Steps.{here-within}
 use Rattle.store_file.specs.ScanLaws.{Here, scans-blob, scans-other, clean-items}
 use Rattle.store_loader.specs.Filling.{Fitting, filling}
 

@@ -18,9 +18,9 @@ use Rattle.lookup.specs.Search.{Nth}
 use Rattle.lookup.specs.Laws.{ones-start}
 use Rattle.laws.specs.Ranges.{sets-append}
 use Rattle.wire.specs.Base128.{shortest}
-use Rattle.wire.specs.NumberLaws.{short-last, short-more}
+use Rattle.wire.proofs.NumberLaws.{short-last, short-more}
 use Rattle.wire.specs.Written.{head_of, written, written_all}
-use Rattle.wire.specs.WalkLaws.{written-length}
+use Rattle.wire.proofs.WalkLaws.{written-length}
 use Rattle.store_file.specs.Messages.{Scan, blob_field, name_field, data_field}
 use Rattle.store_file.specs.Saved.{places_below, blob_contents, blob_content}
 

@@ -15,7 +15,7 @@ use Rattle.laws.specs.Bytes.{first_zero, zeros}
 use Rattle.laws.specs.Fronts.{block-lent, front-lent, text-lent}
 use Rattle.laws.specs.Ranges.{block}
 use Rattle.protocol.specs.Numbers.{success, out_of_range, not_sound, sixteen_bits, slot_count, name_size, slot_size}
-use Rattle.protocol.specs.Sizes.{name-size, slot-size}
+use Rattle.protocol.proofs.Sizes.{name-size, slot-size}
 use Rattle.protocol.specs.Names.{base, store_field}
 use Rattle.protocol.specs.Frame.{laid}
 use Rattle.state.specs.State.{State, Slot}

@@ -11,7 +11,7 @@ use Rattle.protocol.specs.Numbers.{success, not_sound}
 use Rattle.state.specs.State.{State}
 use Rattle.state.specs.Soundness.{is_sound}
 use Rattle.tray.specs.Tray.{tray_most, messages_in, tray_form, tray_code, done_in, tray_done, tray}
-use Rattle.tray.specs.Call.{as_found, tray-done, code_is, refused-tray}
+use Rattle.tray.proofs.Call.{as_found, tray-done, code_is, refused-tray}
 
 module _ (b : List ℕ) (s : State) (a w : List ℕ) where
   -- the code where the test for soundness and length came to y

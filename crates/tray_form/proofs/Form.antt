@@ -11,9 +11,9 @@ use lib.ListN.{length, drop, length-drop, drop_of_length-le}
 use lib.Seq.{drop-drop}
 use Rattle.protocol.specs.Numbers.{success, wrong_length, too_long}
 use Rattle.records.specs.Records.{message_of, clock_of, size_of, is_whole, Timed, requests_in, bytes_in}
-use Rattle.records.specs.Requests.{first-whole}
-use Rattle.records.specs.Found.{Found, found_in}
-use Rattle.tray.specs.Whole.{first-bytes}
+use Rattle.records.proofs.Requests.{first-whole}
+use Rattle.records.proofs.Found.{Found, found_in}
+use Rattle.tray.proofs.Whole.{first-bytes}
 use Rattle.tray.specs.Tray.{tray_most, messages_in, form_of, tray_form}
 
 -- how far the walk has come: `count` records lie before the place `at`

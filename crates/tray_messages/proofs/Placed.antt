@@ -14,8 +14,8 @@ use Rattle.protocol.specs.Frame.{laid}
 use Rattle.state.specs.State.{State}
 use Rattle.state.specs.Soundness.{is_sound}
 use Rattle.rules.specs.Respond.{respond, Served, served}
-use Rattle.rules.specs.Laws.{served-is}
-use Rattle.guarantees.specs.Fits.{response-fits}
+use Rattle.rules.proofs.Laws.{served-is}
+use Rattle.guarantees.proofs.Fits.{response-fits}
 use Rattle.request_answer.specs.Call.{answerable}
 use Rattle.tray_messages.specs.Call.{served_at}
 

@@ -14,13 +14,13 @@ use Rattle.protocol.specs.Numbers.{success, answer_size}
 use Rattle.state.specs.State.{State}
 use Rattle.state.specs.Soundness.{is_sound}
 use Rattle.rules.specs.Respond.{Effect, respond, Served}
-use Rattle.guarantees.specs.Keep.{respond-sound}
-use Rattle.guarantees.specs.Fits.{response-fits}
+use Rattle.guarantees.proofs.Keep.{respond-sound}
+use Rattle.guarantees.proofs.Fits.{response-fits}
 use Rattle.records.specs.Records.{clock_of, message_of, size_of, is_whole, Timed, requests_in}
-use Rattle.records.specs.Requests.{first-none}
-use Rattle.records.specs.Found.{Found, found-message}
+use Rattle.records.proofs.Requests.{first-none}
+use Rattle.records.proofs.Found.{Found, found-message}
 use Rattle.tray.specs.Tray.{tray_most, messages_in, code_unit, result_word, Done, nothing_done, done_first, done_in, tray_done}
-use Rattle.tray.specs.Steps.{done_none, done_full, done-one}
+use Rattle.tray.proofs.Steps.{done_none, done_full, done-one}
 use Rattle.tray_messages.specs.Call.{served_at}
 use Rattle.tray_form.proofs.Form.{more, all_seen}
 

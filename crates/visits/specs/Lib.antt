@@ -1,3 +1,1 @@
 pub mod Visits
-pub mod Theorems
-pub mod Examples

@@ -1,9 +1,4 @@
 pub mod Base128
 pub mod Fields
 pub mod Walk
-pub mod NumberLaws
 pub mod Written
-pub mod WalkLaws
-pub mod Steps
-pub mod Forms
-pub mod Examples

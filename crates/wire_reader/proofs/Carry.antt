@@ -12,7 +12,7 @@ use lib.ListN.{get_or}
 use Rattle.wire.specs.declared.Number.{Number}
 use Rattle.wire.specs.declared.Number.TheVariants.{Value, Bad}
 use Rattle.wire.specs.Base128.{more, number_in, number_at}
-use Rattle.wire.specs.NumberLaws.{number-last, number_more, number_cut}
+use Rattle.wire.proofs.NumberLaws.{number-last, number_more, number_cut}
 
 -- a number that is still to come, behind what is read so far: its weight, and the part read
 abbrev pub carried : ℕ → ℕ → Number → Number

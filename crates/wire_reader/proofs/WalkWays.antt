@@ -11,7 +11,7 @@ use Rattle.laws.specs.Ranges.{part}
 use Rattle.wire.specs.declared.Field.TheVariants.{Fault}
 use Rattle.wire.specs.Fields.{store_keys, field_at}
 use Rattle.wire.specs.Walk.{Item, Walked, walk, last_from, last}
-use Rattle.wire.specs.Steps.{Here, here-span, here-within, step_end, step-fault, step-on}
+use Rattle.wire.proofs.Steps.{Here, here-span, here-within, step_end, step-fault, step-on}
 use Rattle.wire_reader.specs.Last.{LastIs}
 
 -- a fault stands there

@@ -6,7 +6,7 @@ use lib.ListN.{replicate}
 use lib.Seq.{sets}
 use Rattle.laws.specs.Ranges.{part, length_part}
 use Rattle.protocol.specs.Numbers.{slot_count}
-use Rattle.capi_control.specs.Laws.{sets-whole}
+use Rattle.capi_control.proofs.Laws.{sets-whole}
 use borrow.Author.Rules.{rules}
 use Rattle.capi_control.proofs.lengths_at.Statement.{statement}
 use Rattle.capi_control.proofs.lengths_at.Tie as tie

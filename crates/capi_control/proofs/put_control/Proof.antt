@@ -4,7 +4,7 @@ use Prim.Native.Nat.{ℕ}
 use native.Mathlib.Omega.{arith}
 use lib.ListN.{length, length-map}
 use Rattle.protocol.specs.Numbers.{slot_count}
-use Rattle.capi_control.specs.Laws.{put-control}
+use Rattle.capi_control.proofs.Laws.{put-control}
 use borrow.Author.Rules.{rules}
 use Rattle.capi_control.proofs.put_control.Statement.{statement}
 use Rattle.capi_control.proofs.put_control.Tie as tie

@@ -6,7 +6,7 @@ use Rattle.lookup.specs.Laws.{table-lent, looked-search}
 use Rattle.lookup.specs.Search.{searched-row, row_low}
 use Rattle.state.specs.Words.{fresh}
 use Rattle.state.specs.declared.mask.Found.TheVariants.{At, Nothing}
-use Rattle.visits.specs.Theorems.{looked-nothing}
+use Rattle.visits.proofs.Theorems.{looked-nothing}
 use Rattle.visits.specs.Visits.{table_fits}
 use Rattle.lookup.proofs.find_session.Goals as goal
 use Rattle.lookup.proofs.find_session.Goals.{Else-not-table_fits}

@@ -5,7 +5,7 @@ use Rattle.laws.specs.Bytes.{padded, padded-length}
 use Rattle.laws.specs.Ranges.{part, block, block-fits, get_d_part, length_part}
 use Rattle.lookup.specs.Laws.{same_at, same-all}
 use Rattle.protocol.specs.Numbers.{name_size, slot_count}
-use Rattle.protocol.specs.Sizes.{name-size}
+use Rattle.protocol.proofs.Sizes.{name-size}
 use Rattle.lookup.proofs.same_name.Goals as goal
 
 pub loop-i-init : goal.loop-i-init

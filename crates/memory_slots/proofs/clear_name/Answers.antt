@@ -2,7 +2,7 @@
 use Rattle.std.proofs.Common.{◌∙◌, arith, ◌-◌}
 use Rattle.memory_slots.specs.Laws.{block-cleared}
 use Rattle.protocol.specs.Numbers.{name_size}
-use Rattle.protocol.specs.Sizes.{name-size}
+use Rattle.protocol.proofs.Sizes.{name-size}
 use Rattle.memory_slots.proofs.clear_name.Goals as goal
 
 pub clear_at-requires : goal.clear_at-requires

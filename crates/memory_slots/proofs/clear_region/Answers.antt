@@ -2,7 +2,7 @@
 use Rattle.std.proofs.Common.{◌∙◌, arith, ◌-◌}
 use Rattle.memory_slots.specs.Laws.{block-cleared}
 use Rattle.protocol.specs.Numbers.{slot_size}
-use Rattle.protocol.specs.Sizes.{slot-size}
+use Rattle.protocol.proofs.Sizes.{slot-size}
 use Rattle.memory_slots.proofs.clear_region.Goals as goal
 
 pub clear_at-requires : goal.clear_at-requires

@@ -2,7 +2,7 @@
 use Rattle.std.proofs.Common.{◌∙◌, arith, ◌-◌, rules}
 use Rattle.memory_slots.specs.Laws.{block-copied}
 use Rattle.protocol.specs.Numbers.{slot_size}
-use Rattle.protocol.specs.Sizes.{slot-size}
+use Rattle.protocol.proofs.Sizes.{slot-size}
 use Rattle.memory_slots.proofs.copy_region.Goals as goal
 
 pub slice_bounds-copy_at-end : goal.slice_bounds-copy_at-end

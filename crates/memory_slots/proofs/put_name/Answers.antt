@@ -3,7 +3,7 @@ use Rattle.std.proofs.Common.{◌∙◌, ap, arith, List, ℕ, ◌+◌, ◌*◌,
 use Rattle.std.proofs.lemmas.List.Edits.{sets}
 use Rattle.memory_slots.specs.Laws.{block-named}
 use Rattle.protocol.specs.Numbers.{name_size}
-use Rattle.protocol.specs.Sizes.{name-size}
+use Rattle.protocol.proofs.Sizes.{name-size}
 use Rattle.memory_slots.proofs.put_name.Goals as goal
 
 pub copy_at-requires : goal.copy_at-requires

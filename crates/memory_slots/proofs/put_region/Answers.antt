@@ -3,7 +3,7 @@ use Rattle.std.proofs.Common.{◌∙◌, ap, arith, List, ℕ, ◌+◌, ◌*◌,
 use Rattle.std.proofs.lemmas.List.Edits.{sets}
 use Rattle.memory_slots.specs.Laws.{block-named}
 use Rattle.protocol.specs.Numbers.{slot_size}
-use Rattle.protocol.specs.Sizes.{slot-size}
+use Rattle.protocol.proofs.Sizes.{slot-size}
 use Rattle.memory_slots.proofs.put_region.Goals as goal
 
 pub copy_at-requires : goal.copy_at-requires

@@ -3,7 +3,7 @@ use mathlib.Core.Path.{refl, sym, ◌∙◌, ap, subst}
 use native.Mathlib.Omega.{arith}
 use Rattle.protocol.specs.Names.{base}
 use Rattle.protocol.specs.Frame.{Reply}
-use Rattle.protocol.specs.Sizes.{name-size}
+use Rattle.protocol.proofs.Sizes.{name-size}
 use Rattle.name_list.specs.Listed.{InStore, listed_reply, Answers}
 use Rattle.name_list.specs.declared.Listed.{Listed}
 use borrow.Author.Rules.{rules}

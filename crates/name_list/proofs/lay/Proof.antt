@@ -8,7 +8,7 @@ use lib.Seq.{sets, length-sets}
 use Rattle.laws.specs.Ranges.{part}
 use Rattle.protocol.specs.Decode.{fields_at}
 use Rattle.protocol.specs.Frame.{reply}
-use Rattle.protocol.specs.Sizes.{name-size}
+use Rattle.protocol.proofs.Sizes.{name-size}
 use Rattle.name_list.specs.Laws.{name-laid, name-read}
 use borrow.Author.Rules.{rules}
 use Rattle.name_list.proofs.lay.Statement.{statement}

@@ -1,6 +1,6 @@
 -- `lay_flash`: from `lay`, lent each name.
 use native.Mathlib.Omega.{arith}
-use Rattle.protocol.specs.Sizes.{name-size}
+use Rattle.protocol.proofs.Sizes.{name-size}
 use Rattle.protocol.specs.Names.{flash_folder, flash_word}
 use borrow.Author.Rules.{rules}
 use Rattle.name_list.proofs.lay_flash.Statement.{statement}

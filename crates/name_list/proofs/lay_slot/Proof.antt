@@ -6,7 +6,7 @@ use lib.ListN.{length}
 use Rattle.laws.specs.Ranges.{part}
 use Rattle.laws.specs.Bytes.{first_zero}
 use Rattle.protocol.specs.Numbers.{name_size}
-use Rattle.protocol.specs.Sizes.{name-size}
+use Rattle.protocol.proofs.Sizes.{name-size}
 use Rattle.laws.specs.Fronts.{block-lent, front-short, text-lent}
 use borrow.Author.Rules.{rules}
 use Rattle.name_list.proofs.lay_slot.Statement.{statement}

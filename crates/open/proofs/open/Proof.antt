@@ -8,7 +8,7 @@ use Rattle.state.specs.Soundness.{is_sound}
 use Rattle.state.specs.Agree.{sound-of-test, test-of-sound}
 use Rattle.rules.specs.Open.{open_blob}
 use Rattle.rules.specs.Sweep.{swept}
-use Rattle.guarantees.specs.Keep.{swept-sound}
+use Rattle.guarantees.proofs.Keep.{swept-sound}
 use Rattle.open.proofs.open.Statement.{statement}
 use Rattle.open.proofs.open.Tie as tie
 

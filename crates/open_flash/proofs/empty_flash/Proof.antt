@@ -4,7 +4,7 @@ use Rattle.protocol.specs.Numbers.{image_size, hash_size}
 use Rattle.protocol.specs.declared.FlashKind.{FlashKind}
 use Rattle.state.specs.declared.row.Place.TheVariants.{AtFlash}
 use Rattle.state.specs.State.{state_of, in_body}
-use Rattle.protocol.specs.Sizes.{image-size, hash-size}
+use Rattle.protocol.proofs.Sizes.{image-size, hash-size}
 use Rattle.laws.specs.Fronts.{cleared}
 use Rattle.open_flash.specs.Lengths.{without_image, without_hash}
 use borrow.Author.Rules.{rules}

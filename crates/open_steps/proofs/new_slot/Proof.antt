@@ -2,7 +2,7 @@
 use mathlib.Core.Path.{ap}
 use native.Mathlib.Omega.{arith}
 use Rattle.laws.specs.Ranges.{part}
-use Rattle.protocol.specs.Sizes.{name-size}
+use Rattle.protocol.proofs.Sizes.{name-size}
 use Rattle.state.specs.State.{Slots, store_of, state_of, in_store}
 use Rattle.open_steps.specs.Laws.{named_put}
 use borrow.Author.Rules.{rules}

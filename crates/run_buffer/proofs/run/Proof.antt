@@ -16,7 +16,7 @@ use Rattle.records.specs.declared.Record.TheVariants.{Whole}
 use Rattle.state.specs.State.{state_of}
 use Rattle.run_buffer.specs.Step.{Stepped}
 use Rattle.run_buffer.specs.Progress.{Progress, begins, ends-full, ends-none, goes_to, able-kept}
-use Rattle.records.specs.Found.{Found, found, found_in, found_none}
+use Rattle.records.proofs.Found.{Found, found, found_in, found_none}
 use Rattle.run_buffer.proofs.run.Statement.{statement}
 use Rattle.run_buffer.proofs.run.Tie as tie
 

@@ -2,7 +2,7 @@
 use mathlib.Core.Path.{◌∙◌}
 use native.Mathlib.Omega.{arith}
 use Rattle.protocol.specs.Numbers.{image_size, hash_size}
-use Rattle.protocol.specs.Sizes.{image-size, hash-size}
+use Rattle.protocol.proofs.Sizes.{image-size, hash-size}
 use Rattle.laws.specs.Fronts.{cleared}
 use borrow.Author.Rules.{rules}
 use Rattle.session_flash.proofs.clear_flash.Statement.{statement}

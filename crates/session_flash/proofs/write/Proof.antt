@@ -9,7 +9,7 @@ use Rattle.response_types.specs.Laws.{refused-leaves}
 use Rattle.session_flash.proofs.Laws.{holds_bytes, write-image, write-hash, write-d5, write-is}
 use native.Mathlib.Omega.{arith}
 use Rattle.rules.specs.Flash.{with_image, with_hash}
-use Rattle.protocol.specs.Sizes.{image-size, hash-size}
+use Rattle.protocol.proofs.Sizes.{image-size, hash-size}
 use Rattle.session_row.specs.OnRow.{row_read}
 use borrow.Author.Rules.{rules}
 use Rattle.session_flash.proofs.write.Statement.{statement}

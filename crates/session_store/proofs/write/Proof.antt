@@ -8,7 +8,7 @@ use Rattle.state.specs.declared.row.Entry.{Entry}
 use Rattle.state.specs.Entry.{lifted}
 use Rattle.response_types.specs.Laws.{refused-leaves}
 use Rattle.session_store.proofs.Laws.{write-d5, write-is}
-use Rattle.protocol.specs.Sizes.{slot-size}
+use Rattle.protocol.proofs.Sizes.{slot-size}
 use native.Mathlib.Omega.{arith}
 use borrow.Author.Rules.{rules}
 use Rattle.session_store.proofs.write.Statement.{statement}

@@ -6,7 +6,7 @@ use lib.ListN.{length}
 use Rattle.wire.specs.Fields.{store_keys}
 use Rattle.wire.specs.Walk.{walk_with}
 use Rattle.store_file.specs.Messages.{inside, store_in}
-use Rattle.wire.specs.Steps.{here-within, here-less}
+use Rattle.wire.proofs.Steps.{here-within, here-less}
 use Rattle.store_file.specs.ScanLaws.{Here}
 use Rattle.store_check.proofs.Ways.{store-end, store_found, store-inner, store-blob, store_other}
 use borrow.Author.Rules.{rules}

@@ -3,7 +3,7 @@ use mathlib.Core.Path.{sym, ◌∙◌}
 use Prim.Native.Nat.{◌-◌}
 use native.Mathlib.Omega.{arith}
 use lib.ListN.{length}
-use Rattle.wire.specs.Steps.{here-ahead, here-span, here-within, here-less}
+use Rattle.wire.proofs.Steps.{here-ahead, here-span, here-within, here-less}
 use Rattle.store_file.specs.ScanLaws.{Here, scans-end, scans-fault}
 use Rattle.store_check.proofs.Ways.{Testing, testing-start, testing-end, testing-blob, testing-other}
 use borrow.Author.Rules.{rules}

@@ -4,7 +4,7 @@ use Prim.Native.Nat.{ℕ, ◌*◌}
 use lib.ListN.{replicate}
 use Rattle.laws.specs.Fronts.{cleared}
 use Rattle.protocol.specs.Numbers.{slot_count, name_size, slot_size}
-use Rattle.protocol.specs.Sizes.{name-size, slot-size}
+use Rattle.protocol.proofs.Sizes.{name-size, slot-size}
 use Rattle.state.specs.Words.{fresh}
 use borrow.Author.Rules.{rules}
 use Rattle.store_loader.proofs.clear_store.Statement.{statement}

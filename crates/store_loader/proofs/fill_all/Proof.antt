@@ -3,7 +3,7 @@ use mathlib.Core.Path.{sym, ◌∙◌}
 use Prim.Native.Nat.{◌-◌}
 use native.Mathlib.Omega.{arith}
 use lib.ListN.{length}
-use Rattle.wire.specs.Steps.{here-less}
+use Rattle.wire.proofs.Steps.{here-less}
 use Rattle.store_file.specs.ScanLaws.{Here, scans-end, scans-fault}
 use Rattle.store_loader.proofs.Laws.{Filled, filled-start, filled-end, filled-other, filled-room, filled-fits, filled_more}
 use borrow.Author.Rules.{rules}

@@ -7,7 +7,7 @@ use lib.ListN.{length, set}
 use Rattle.laws.specs.Ranges.{block}
 use Rattle.laws.specs.Bytes.{padded}
 use Rattle.protocol.specs.Numbers.{slot_count, name_size, slot_size}
-use Rattle.protocol.specs.Sizes.{slot-size}
+use Rattle.protocol.proofs.Sizes.{slot-size}
 use Rattle.store_loader.proofs.Laws.{zero-block, name-short, data-length}
 use borrow.Author.Rules.{rules}
 use Rattle.store_loader.proofs.fill_slot.Statement.{statement}

@@ -5,7 +5,7 @@ use native.Mathlib.Omega.{arith}
 use borrow.Author.Tests.{not-true, not-false}
 use lib.ListN.{length}
 use Rattle.store_file.specs.Scans.{scans_from}
-use Rattle.wire.specs.Steps.{here-within, here-less}
+use Rattle.wire.proofs.Steps.{here-within, here-less}
 use Rattle.store_file.specs.ScanLaws.{Here, scans-blob, scans-other, scans-end, scans-fault}
 use Rattle.store_names.specs.Laws.{Passed, passed_start, passed_on, passed-end, passed-no, passed-more}
 use borrow.Author.Rules.{rules}

@@ -10,7 +10,7 @@ use Rattle.laws.specs.Ranges.{part}
 use Rattle.laws.specs.Bytes.{same}
 use Rattle.store_file.specs.Messages.{Scan}
 use Rattle.store_file.specs.Scans.{scans_from, scan_between}
-use Rattle.wire.specs.Steps.{here-ahead, here-span, here-within, here-less}
+use Rattle.wire.proofs.Steps.{here-ahead, here-span, here-within, here-less}
 use Rattle.store_file.specs.ScanLaws.{Here, scans-blob, scans-other, scans-end, scans-fault}
 use Rattle.store_names.specs.Names.{count_named}
 use Rattle.store_names.specs.Laws.{cond-most, counted-end, counted_step}

@@ -3,7 +3,7 @@ use mathlib.Core.Path.{◌≡◌}
 use Prim.Native.Nat.{ℕ, ◌+◌, ◌≤◌}
 use native.Mathlib.Omega.{arith}
 use lib.ListN.{length}
-use Rattle.protocol.specs.Sizes.{name-size, slot-size}
+use Rattle.protocol.proofs.Sizes.{name-size, slot-size}
 use Rattle.wire.specs.Written.{written_all}
 use Rattle.store_file.specs.Messages.{Scan}
 use Rattle.store_file.specs.Saved.{blob_contents}

@@ -4,7 +4,7 @@ use Prim.Native.Nat.{◌≤◌}
 use native.Mathlib.Omega.{arith}
 use lib.ListN.{length}
 use lib.Seq.{sets}
-use Rattle.protocol.specs.Sizes.{name-size, slot-size}
+use Rattle.protocol.proofs.Sizes.{name-size, slot-size}
 use Rattle.wire.specs.Written.{written}
 use Rattle.store_file.specs.Messages.{Scan}
 use Rattle.store_file.specs.Saved.{blob_content}

@@ -11,8 +11,8 @@ use Rattle.records.specs.contracts.Record.{enum}
 use Rattle.records.specs.declared.Record.{Record}
 use Rattle.records.specs.declared.Record.TheVariants.{Whole}
 use Rattle.records.specs.Records.{requests_in}
-use Rattle.records.specs.Requests.{first-none}
-use Rattle.records.specs.Found.{Found, found, found_none}
+use Rattle.records.proofs.Requests.{first-none}
+use Rattle.records.proofs.Found.{Found, found, found_none}
 use Rattle.tray.specs.Tray.{tray_most}
 use Rattle.tray_form.proofs.Form.{Walk, walk_begins, walk-on, has-form, is_cut, too_many, all_seen}
 use Rattle.tray_form.proofs.form_of.Statement.{statement}

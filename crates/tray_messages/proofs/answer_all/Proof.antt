@@ -14,7 +14,7 @@ use Rattle.state.specs.State.{state_of}
 use Rattle.records.specs.contracts.Record.{enum}
 use Rattle.records.specs.declared.Record.{Record}
 use Rattle.records.specs.declared.Record.TheVariants.{Whole}
-use Rattle.records.specs.Found.{Found, found, found_in, found_none}
+use Rattle.records.proofs.Found.{Found, found, found_in, found_none}
 use Rattle.tray.specs.Tray.{tray_most}
 use Rattle.tray_messages.proofs.Progress.{Progress, begins, ends-left, ends-none, goes_to, reply-short}
 use Rattle.tray_messages.proofs.answer_all.Statement.{statement}

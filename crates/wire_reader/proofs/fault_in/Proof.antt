@@ -4,7 +4,7 @@ use Prim.Native.Nat.{◌-◌}
 use native.Mathlib.Omega.{arith}
 use Rattle.wire.specs.Fields.{store_keys}
 use Rattle.wire.specs.Walk.{walk}
-use Rattle.wire.specs.Steps.{Here, here-less}
+use Rattle.wire.proofs.Steps.{Here, here-less}
 use Rattle.wire_reader.proofs.WalkWays.{fault-end, fault-found, fault-on}
 use borrow.Author.Rules.{rules}
 use Rattle.wire_reader.proofs.fault_in.Statement.{statement}

@@ -3,7 +3,7 @@ use mathlib.Core.Path.{◌≡◌, sym, ◌∙◌}
 use native.Mathlib.Omega.{arith}
 use Rattle.wire.specs.declared.Number.TheVariants.{Value}
 use Rattle.wire.specs.Base128.{number_at}
-use Rattle.wire.specs.NumberLaws.{number-place}
+use Rattle.wire.proofs.NumberLaws.{number-place}
 use Rattle.wire_reader.proofs.Ways.{field-bad, field-other, field-zero, field-wrong, field-value}
 use borrow.Author.Rules.{rules}
 use Rattle.wire_reader.proofs.field_at.Statement.{statement}

@@ -3,7 +3,7 @@ use mathlib.Core.Path.{sym, ◌∙◌}
 use Prim.Native.Nat.{◌-◌}
 use native.Mathlib.Omega.{arith}
 use Rattle.wire.specs.Fields.{store_keys}
-use Rattle.wire.specs.Steps.{Here, here-less}
+use Rattle.wire.proofs.Steps.{Here, here-less}
 use Rattle.wire_reader.proofs.WalkWays.{Lasts, last-start, last_end, last-fault, last-hit, last-miss}
 use borrow.Author.Rules.{rules}
 use Rattle.wire_reader.proofs.last_field.Statement.{statement}

@@ -2,7 +2,7 @@
 use mathlib.Core.Path.{◌≡◌, sym, ◌∙◌}
 use Rattle.wire.specs.declared.Number.TheVariants.{Value}
 use Rattle.wire.specs.Base128.{number_at}
-use Rattle.wire.specs.NumberLaws.{number-place}
+use Rattle.wire.proofs.NumberLaws.{number-place}
 use Rattle.wire_reader.proofs.Ways.{value-eight, value-four, value-bad, value-number, value-bytes}
 use borrow.Author.Rules.{rules}
 use Rattle.wire_reader.proofs.value_at.Statement.{statement}

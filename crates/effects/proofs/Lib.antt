@@ -1,0 +1,4 @@
+pub mod FlashAfter
+pub mod StoreAfter
+pub mod OpenAfter
+pub mod Names

@@ -1,0 +1,13 @@
+pub mod StorePart
+pub mod FlashPart
+pub mod Merging
+pub mod Keep
+pub mod Refusals
+pub mod FlashPromise
+pub mod Steps
+pub mod Fits
+pub mod Sessions
+pub mod After
+pub mod Answer
+pub mod Premises
+pub mod FlashHistory

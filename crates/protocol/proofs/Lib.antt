@@ -1,0 +1,4 @@
+pub mod Sizes
+pub mod BodyLayout
+pub mod NameForms
+pub mod Naming

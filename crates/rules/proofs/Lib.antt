@@ -1,0 +1,12 @@
+pub mod Laws
+pub mod OpenLaws
+pub mod Change
+pub mod Identifiers
+pub mod Messages
+pub mod Situations
+pub mod Sweeping
+pub mod Examples
+pub mod Excluded
+pub mod Committed
+pub mod Effects
+pub mod Places

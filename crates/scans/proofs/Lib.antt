@@ -1,0 +1,6 @@
+pub mod Scan
+pub mod Safe
+pub mod Found
+pub mod Uploaded
+pub mod Left
+pub mod Met

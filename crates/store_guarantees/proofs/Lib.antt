@@ -1,0 +1,13 @@
+pub mod ReadBack
+pub mod Committed
+pub mod Accepted
+pub mod Stored
+pub mod StoredScans
+pub mod StoredSound
+pub mod Theorems
+pub mod Examples
+pub mod Listed
+pub mod Codes
+pub mod Slots
+pub mod Premises
+pub mod CodesMet

@@ -1,0 +1,5 @@
+pub mod NumberLaws
+pub mod WalkLaws
+pub mod Steps
+pub mod Forms
+pub mod Examples
