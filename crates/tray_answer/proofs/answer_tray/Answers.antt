@@ -24,7 +24,7 @@ returns-then-form-success c =
 pub answer_all-requires : goal.answer_all-requires
 answer_all-requires c =
     let both = and-true (is_sound ((let a = c.args in state_of a.control a.table.now a.names.now a.committed.now a.staged.now a.image.now a.hash.now))) (eqb (length c.args.results.now) tray_most) (able (goal.at.answer_all-requires c).Else-not-able) in
-    (both.0, eqb-true (length c.args.results.now) tray_most both.1)
+    record { sound = both.0; results_len = eqb-true (length c.args.results.now) tray_most both.1 }
 
 pub returns : goal.returns
 returns c =
