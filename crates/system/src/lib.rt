@@ -1,7 +1,8 @@
 // What the programs ask of the system, over std: words of the command, files to read, and lines about what failed. The functions here only move bytes.
 #![tactic(auto)]
 
-ghost use Rattle.std.specs.Prelude.{◌≡◌, ◌≤◌, length, IfOk};
+ghost use Rattle.std.specs.Prelude.{◌≡◌, ◌≤◌, ◌<◌, length, take, IfOk};
+ghost use Rattle.std.specs.Io.KnownBytes.{Consumes, IsAtEnd};
 ghost use Rattle.system.specs.Counts.{IsPrefixLen};
 
 use std::env::{Env, FillError};
@@ -48,9 +49,11 @@ pub fn open_to_read<R: Files>(rt: &R, path: &[u8]) -> io::Result<R::File> {
     File::open(rt, path_text(path)?)
 }
 
-// Reads until the buffer is full or the input ends; how many bytes were put at its front.
+// Reads until the buffer is full or the input ends; how many bytes were put at its front. Where a reader says which bytes it has left, these are they.
 pub fn read_full<F: Read>(from: &mut F, buffer: &mut [u8]) -> io::Result<usize>
     ensures within { IfOk result (λ n. n ≤ length buffer.new) }
+    ensures bytes { IfOk result (λ n. Consumes (F.remaining from.old) (F.remaining from.new) (take n buffer.new)) }
+    ensures end { IfOk result (λ n. n < length buffer.new → IsAtEnd (F.remaining from.new)) }
 {
     let mut len = 0;
     while len < buffer.len() {
