@@ -1,6 +1,6 @@
 #!/bin/sh
 # run.sh [STORY.txt]: tells a recorded story in words: each request, and what the library answered. The story of the two clients of one name, if none is given.
-# It proves and builds blobrun first, where that was not done yet; what the prover prints goes to target/blobrun.log.
+# It proves and builds blobrun first (tools/build.sh), where that was not done yet.
 set -eu
 usage() { echo "usage: run.sh [STORY.txt]    (tools/recording.py --help says how a story is written)"; }
 case "$#${1:-}" in
@@ -16,10 +16,9 @@ out=$(mktemp -d)
 trap 'rm -rf "$out"' EXIT
 trap 'exit 1' INT TERM HUP # so that the folder is removed then too
 python3 "$root/tools/recording.py" make "$story" "$out/requests"
-mkdir -p "$root/target"
 [ -x "$root/target/bin/blobrun" ] || echo "Proving and building blobrun; that takes some minutes the first time." >&2
-(cd "$root" && rt check blobrun) >"$root/target/blobrun.log" 2>&1 || { tail -n 20 "$root/target/blobrun.log" >&2; exit 1; }
-# blobrun has no exit status: it failed where it said something
+"$root/tools/build.sh" blobrun
+# the exit status of blobrun is always 0: it failed where it said something
 failed=$("$root/target/bin/blobrun" "$out/requests" 2>&1 >"$out/lines")
 [ -z "$failed" ] || { echo "$failed" >&2; exit 1; }
 python3 "$root/tools/recording.py" tell "$story" "$out/lines"

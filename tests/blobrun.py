@@ -1,7 +1,7 @@
 #!/usr/bin/env python3
 """Runs the program `blobrun` as its users do: on the examples, on standard input, on cut and large files, on bad arguments.
 
-blobrun.py --check            needs target/bin/blobrun (rt check blobrun)
+blobrun.py --check            needs target/bin/blobrun (tools/build.sh)
 blobrun.py --write PROGRAM    writes examples/*.lines by another program that prints the same lines"""
 import pathlib
 import resource

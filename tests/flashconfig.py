@@ -2,7 +2,7 @@
 """Runs the program `flashconfig` as its users do: on the configurations of document 004, on every kind of fault with lines ended either way, on cut, empty
 and long files, on standard input, on bad arguments.
 
-flashconfig.py --check        needs target/bin/flashconfig (rt check flashconfig)"""
+flashconfig.py --check        needs target/bin/flashconfig (tools/build.sh)"""
 import pathlib
 import shlex
 import subprocess

@@ -1,7 +1,7 @@
 #!/usr/bin/env python3
 """Runs tools/recording.py as its users do: every request both ways, every fault with its line, transfers through blobrun, lines of ipmitool.
 
-recording.py --check          needs target/bin/blobrun (rt check blobrun)"""
+recording.py --check          needs target/bin/blobrun (tools/build.sh)"""
 import binascii
 import os
 import pathlib

@@ -1,7 +1,7 @@
 #!/usr/bin/env python3
 """blobrun and the second implementation's own program print the same lines: for the examples, and for files of random requests, some cut short.
 
-Needs target/bin/blobrun (rt check blobrun) and target/second/release/second_run (cargo build --release in second/, target folder target/second)."""
+Needs target/bin/blobrun (tools/build.sh) and target/second/release/second_run (cargo build --release in second/, target folder target/second)."""
 import pathlib
 import random
 import subprocess

@@ -17,7 +17,7 @@ ENTRIES = ("blobs::respond", "blobs::job_outcome", "capi::kramsnep_respond", "ca
            "capi::kramsnep_find_session", "capi::kramsnep_read_config", "capi::kramsnep_tray", "tray_answer::answer_tray", "lookup::find_session", "config_reader::read_config", "store_writer::save_part", "store_loader::load", "run_buffer::run")
 THEOREM_CRATES = ("rules", "guarantees", "answers", "effects", "scans", "retries", "store_guarantees", "visits", "json", "json_walk", "config_answers", "tray", "capi_calls")
 DEFINED_IN = {"capi": "capi_calls"}  # where what a crate's functions leave is defined, if edits of that count for them
-SYSTEM_CRATES = ("run_store",)
+SYSTEM_CRATES = ("run_store", "system")
 EDITS_EACH = 2
 OTHER_CLAIMS = "Contracts that are not plain equations"
 RECORD = re.compile(r"^( *)(?:pub )?record .*where\n((?:\1  .*\n|\n)*)", re.M)

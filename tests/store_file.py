@@ -2,7 +2,7 @@
 """Store files beside Protocol Buffers: protobuf reads what blobrun saves, and blobrun makes of a file what protobuf makes of it. And the options
 --load and --save, as they are used.
 
-store_file.py --check [PROGRAM]    PROGRAM takes blobrun's arguments (default target/bin/blobrun: rt check blobrun)
+store_file.py --check [PROGRAM]    PROGRAM takes blobrun's arguments (default target/bin/blobrun: tools/build.sh)
                                    not run where protoc or python3's protobuf module is absent (tools/peers.sh)"""
 import collections
 import contextlib

@@ -10,7 +10,7 @@ case $records in
 '' | 0* | *[!0-9]*) echo "usage: run.sh [RECORDS]" >&2; exit 1 ;;
 esac
 tools/archive.sh
-rt check blobrun >target/blobrun.log 2>&1 || { tail -n 20 target/blobrun.log >&2; exit 1; }
+tools/build.sh blobrun
 out=$(mktemp -d)
 trap 'rm -rf "$out"' EXIT
 trap 'exit 1' INT TERM HUP # so that the folder is removed then too

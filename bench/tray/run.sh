@@ -16,7 +16,7 @@ for number in "$rounds" "$records"; do
   esac
 done
 tools/archive.sh
-rt check blobrun >target/blobrun.log 2>&1 || { tail -n 20 target/blobrun.log >&2; exit 1; }
+tools/build.sh blobrun
 out=$(mktemp -d)
 trap 'rm -rf "$out"' EXIT
 trap 'exit 1' INT TERM HUP # so that the folder is removed then too

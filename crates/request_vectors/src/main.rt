@@ -5,17 +5,11 @@
 ghost use Rattle.std.specs.Prelude.{◌≤◌, ◌<◌, length};
 
 use protocol::{Blob, Request, Subcommand};
+use std::io;
+use std::io::Read;
 
-const OUT: i32 = 1;
-
-fn say(word: &[u8]) {
-    io::write_all(OUT, word);
-}
-
-fn number(x: u64, width: usize) {
-    say(b" ");
-    io::print_hex(OUT, x, width);
-}
+// The most of the input that is read.
+const INPUT_MOST: u64 = 65536;
 
 // A request in numbers: its subcommand or its completion code, then its values.
 #[derive(Drop)]
@@ -117,16 +111,12 @@ fn line_of(r: Request) -> Line {
     }
 }
 
-fn say_line(l: Line) {
-    io::print_hex(OUT, l.number, 2);
-    number(l.a, 8);
-    number(l.b, 8);
-    number(l.c, 8);
-    number(l.d, 2);
-    say(b"\n");
+fn say_line(rt: &impl Print, line: Line) -> io::Result<()> {
+    let Line { number, a, b, c, d } = line;
+    println!(rt; "{number:02x} {a:08x} {b:08x} {c:08x} {d:02x}")
 }
 
-// The message at a place; the place of the next.
+// Where the message at a place ends; the next begins there. One that is cut short ends with the input.
 fn next(s: &[u8], at: usize) -> usize
     requires { at < length s.now }
     ensures { (at < result) × (result ≤ length s.now) }
@@ -134,58 +124,71 @@ fn next(s: &[u8], at: usize) -> usize
     let n = s[at] as usize;
     let from = at + 1;
     if s.len() - from < n {
-        say(b"cut\n");
         return s.len();
     }
-    let end = from + n;
-    say_line(line_of(request_decode::decode(&s[from..end])));
-    end
+    from + n
 }
 
-fn every(s: &[u8]) {
-    let mut at: usize = 0;
+// A message, with the byte before it that says how long it is.
+fn say_message(rt: &impl Print, counted: &[u8]) -> io::Result<()> {
+    let Some((len, message)) = counted.split_first() else {
+        return Ok(());
+    };
+    if message.len() < *len as usize {
+        println!(rt; "cut")
+    } else {
+        say_line(rt, line_of(request_decode::decode(message)))
+    }
+}
+
+fn every(rt: &impl Print, s: &[u8]) -> io::Result<()> {
+    let mut at = 0;
     while at < s.len() {
-        at = next(s, at);
+        let end = next(s, at);
+        say_message(rt, &s[at..end])?;
+        at = end;
     }
+    Ok(())
 }
 
-fn say_bytes(s: &[u8]) {
-    for i in 0..s.len() {
-        io::print_hex(OUT, s[i] as u64, 2);
+fn say_bytes(rt: &impl Print, bytes: &[u8]) -> io::Result<()> {
+    for byte in bytes {
+        print!(rt; "{byte:02x}")?;
     }
-    say(b"\n");
+    println!(rt)
 }
 
-fn respond(sub: u8, fields: &[u8], answer: &mut [u8; 64])
+fn respond(rt: &impl Print, sub: u8, fields: &[u8], answer: &mut [u8; 64]) -> io::Result<()>
     requires { length fields.now ≤ 58 }
 {
     response_frame::respond_with(sub, fields, answer);
-    say_bytes(answer);
+    say_bytes(rt, answer)
 }
 
-fn closed(answer: &mut [u8; 64]) {
+fn closed(rt: &impl Print, answer: &mut [u8; 64]) -> io::Result<()> {
     response_frame::respond_empty(Subcommand::CLOSE, answer);
-    say_bytes(answer);
+    say_bytes(rt, answer)
 }
 
-fn responses() {
+fn responses(rt: &impl Print) -> io::Result<()> {
     let mut answer = [0xEEu8; 64];
-    closed(&mut answer);
-    respond(Subcommand::READ, b"", &mut answer);
+    closed(rt, &mut answer)?;
+    respond(rt, Subcommand::READ, b"", &mut answer)?;
     let four = response_frame::bytes_of_u32(4);
-    respond(Subcommand::COUNT, &four, &mut answer);
+    respond(rt, Subcommand::COUNT, &four, &mut answer)?;
     let stat = response_frame::stat_bytes(0x0103, 0x00010203);
-    respond(Subcommand::STAT, &stat, &mut answer);
+    respond(rt, Subcommand::STAT, &stat, &mut answer)?;
     respond(
+        rt,
         Subcommand::READ,
         b"0123456789012345678901234567890123456789012345678901234567",
         &mut answer,
-    );
+    )
 }
 
-fn main() {
-    responses();
-    let mut buf = io::large_buffer();
-    let n = io::read_full(0, &mut buf);
-    every(&buf[..n]);
+fn main(rt: HostRuntime) -> io::Result<()> {
+    responses(&rt)?;
+    let mut input = Vec::new(rt.alloc());
+    rt.reader().take(INPUT_MOST).read_to_end(&mut input)?;
+    every(&rt, &input)
 }

@@ -8,8 +8,11 @@ ghost use Rattle.std.specs.Prelude.{◌+◌, ◌≤◌, length};
 
 use sound::sound;
 use state::{Control, Phase};
+use std::io;
+use std::io::Read;
 
-const OUT: i32 = 1;
+// The most of the input that is read.
+const INPUT_MOST: u64 = 65536;
 
 const RECORD: usize = 7;
 
@@ -73,11 +76,11 @@ fn is_sound(words: &[u32], table: &[u32], names: &[u8], committed: &[u8], staged
     sound(control, table, names, committed, staged, &image, &hash)
 }
 
-fn say(ok: bool) {
+fn say(rt: &impl Print, ok: bool) -> io::Result<()> {
     if ok {
-        io::write_all(OUT, b"sound\n");
+        println!(rt; "sound")
     } else {
-        io::write_all(OUT, b"not sound\n");
+        println!(rt; "not sound")
     }
 }
 
@@ -95,15 +98,16 @@ fn put_byte(bytes: &mut [u8], at: usize, value: u8) {
 
 // One record.
 fn step(
+    rt: &impl Print,
     record: &[u8],
     words: &mut [u32],
     table: &mut [u32],
     names: &mut [u8],
     committed: &mut [u8],
     staged: &mut [u8],
-) {
+) -> io::Result<()> {
     if record.len() != RECORD {
-        return;
+        return Ok(());
     }
     let what = record[0];
     let at = request_reader::u16_at(record, 1) as usize;
@@ -120,41 +124,42 @@ fn step(
     } else if what == 4 {
         put_byte(staged, at, low);
     } else {
-        say(is_sound(words, table, names, committed, staged));
+        say(rt, is_sound(words, table, names, committed, staged))?;
     }
+    Ok(())
 }
 
 // Record after record.
 fn every(
-    s: &[u8],
+    rt: &impl Print,
+    input: &[u8],
     words: &mut [u32],
     table: &mut [u32],
     names: &mut [u8],
     committed: &mut [u8],
     staged: &mut [u8],
-) {
-    let mut at: usize = 0;
-    while RECORD <= s.len() - at {
-        let end = at + RECORD;
-        step(&s[at..end], words, table, names, committed, staged);
-        at = end;
+) -> io::Result<()> {
+    for record in input.chunks_exact(RECORD) {
+        step(rt, record, words, table, names, committed, staged)?;
     }
+    Ok(())
 }
 
-fn main() {
+fn main(rt: HostRuntime) -> io::Result<()> {
     let mut words = [0u32; 40];
     let mut table = [0u32; 64];
     let mut names = [0u8; 512];
     let mut committed = [0u8; 65536];
     let mut staged = [0u8; 65536];
-    let mut buf = io::large_buffer();
-    let n = io::read_full(0, &mut buf);
+    let mut input = Vec::new(rt.alloc());
+    rt.reader().take(INPUT_MOST).read_to_end(&mut input)?;
     every(
-        &buf[..n],
+        &rt,
+        &input,
         &mut words,
         &mut table,
         &mut names,
         &mut committed,
         &mut staged,
-    );
+    )
 }
