@@ -6,6 +6,7 @@ use Rattle.laws.specs.Bits.{bit, bit-lt}
 use Rattle.laws.specs.Masks.{ones-more}
 use Rattle.lookup.specs.Laws.{ones-start, nth_last}
 use Rattle.lookup.proofs.nth_set.Goals as goal
+use Rattle.lookup.proofs.nth_set.Goals.{then-has+else-seen-i, else-has}
 
 pub loop-k-init : goal.loop-k-init
 loop-k-init c = (omega arith, (sym (ones-start c.args.mask), omega arith))
@@ -19,7 +20,7 @@ loop-k-preserved c = let k = c.loop-k.k in
     let m = c.args.mask in
     let e : ones_in (k + 1) m ≡ ones_in k m + bit k m = rw add-one (ones-more k m) in
     elim c.if-has.branch [
-      then-has w ↦ let b : bit k m ≡ 1 = eqb-true _ _ (sym c.has.ensures ∙ w.if-has.true) in (omega arith, (omega arith, omega arith))
+      then-has+else-seen-i w ↦ let b : bit k m ≡ 1 = eqb-true _ _ (sym c.has.ensures ∙ w.if-has.true) in (omega arith, (omega arith, omega arith))
       | else-has w ↦ let b : bit k m ≡ 0 = let f = eqb-false (bit k m) 1 (sym c.has.ensures ∙ w.if-has.false) in omega (arith, bit-lt k m, f) in (omega arith, (omega arith, omega arith))
     ]
 

@@ -8,5 +8,5 @@ use Rattle.sound.proofs.lent_right.Goals as goal
 pub returns : goal.returns
 returns c = let a = c.args in
     lent_is (state_of a.control a.table.now a.names.now a.committed.now a.staged.now a.image.now a.hash.now)
-    (sym (length-map a.control.committed_len (λ (x : ℕ). x)) ∙ c.well-formed.0.1.1.1.1.1.0.1.0.1)
-    (sym (length-map a.control.staged_len (λ (x : ℕ). x)) ∙ c.well-formed.0.1.1.1.1.1.1.0.1.0.1)
+    c.well_formed.0.1.1.1.1.1.0.1.0.1
+    c.well_formed.0.1.1.1.1.1.1.0.1.0.1
