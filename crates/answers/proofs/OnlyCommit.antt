@@ -23,7 +23,8 @@ use Rattle.state.specs.declared.row.Place.{Place}
 use Rattle.state.specs.declared.row.Place.TheVariants.{AtSlot, AtFlash}
 use Rattle.state.specs.declared.row.Wanted.TheVariants.{Id, OnBlob}
 use Rattle.state.specs.State.{State, Row, FlashBody, Body, place_of, in_row, in_body, cell}
-use Rattle.state.specs.Parts.{cell-row-other, row_put, row-view-fits}
+use Rattle.state.specs.Parts.{row-view-fits}
+use Rattle.state.proofs.Parts.{cell-row-other, row_put}
 use Rattle.state.specs.Words.{blob_of, status_in, status_of, ident, blob, in_use, Live, stamped, with_status, free_slot, status-with, store_flags, store-flags}
 use Rattle.state.specs.Soundness.{slot_at, is_sound}
 use Rattle.state.specs.Facts.{Sound}

@@ -26,7 +26,8 @@ use Rattle.state.specs.declared.Phase.TheVariants.{Idle, Uploading}
 use Rattle.state.specs.declared.row.Place.{Place}
 use Rattle.state.specs.declared.row.Place.TheVariants.{AtSlot, AtFlash}
 use Rattle.state.specs.State.{State, Row, Slot, in_row, in_body, cell}
-use Rattle.state.specs.Parts.{Separate, FitsSlot, row_put, row-body, body-indep, body-shape, body-get-put}
+use Rattle.state.specs.Parts.{Separate, FitsSlot}
+use Rattle.state.proofs.Parts.{row_put, row-body, body-indep, body-shape, body-get-put}
 use Rattle.state.specs.Words.{id_of, blob_of, status_of, status_in, ident, Live, fresh, word_with, flags-with, status-with}
 use Rattle.state.specs.Soundness.{slot_at, is_sound}
 use Rattle.state.specs.Facts.{FlashSession, PhaseOk, StoreIdle, Sound}

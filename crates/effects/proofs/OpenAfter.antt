@@ -13,7 +13,8 @@ use Rattle.protocol.specs.declared.Request.TheVariants.{Open}
 use Rattle.state.specs.declared.row.Place.{Place}
 use Rattle.state.specs.declared.row.Place.TheVariants.{AtSlot, AtFlash}
 use Rattle.state.specs.State.{State, Row, Slot, Body, place_of, in_row, cell}
-use Rattle.state.specs.Parts.{FitsSlot, cell-get-put, body-view-fits}
+use Rattle.state.specs.Parts.{FitsSlot, body-view-fits}
+use Rattle.state.proofs.Parts.{cell-get-put}
 use Rattle.state.specs.Words.{clean_of, blob_of, blob, in_use, Live}
 use Rattle.state.specs.Soundness.{slot_at, is_sound}
 use Rattle.state.specs.Facts.{Sound}

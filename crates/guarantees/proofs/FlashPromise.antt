@@ -30,7 +30,8 @@ use Rattle.state.specs.declared.Phase.TheVariants.{Uploading, Verified}
 use Rattle.state.specs.declared.row.Place.{Place}
 use Rattle.state.specs.declared.row.Place.TheVariants.{AtSlot, AtFlash}
 use Rattle.state.specs.State.{State, Row, Slot, FlashBody, Body, place_of, in_row, in_body, cell}
-use Rattle.state.specs.Parts.{cell-row-other, row_put, row-view-fits}
+use Rattle.state.specs.Parts.{row-view-fits}
+use Rattle.state.proofs.Parts.{cell-row-other, row_put}
 use Rattle.state.specs.Words.{blob_of, status_of, stamped, with_status, empty_flash, blob, in_use, Live, fresh, status-with, free_slot, store_flags, flash_flags, store-flags}
 use Rattle.state.specs.Soundness.{is_sound, slot_at}
 use Rattle.state.specs.Facts.{FlashSession, PhaseOk, Session, Sound}

@@ -21,7 +21,8 @@ use Rattle.state.specs.declared.Phase.TheVariants.{Idle, Uploading}
 use Rattle.state.specs.declared.row.Place.{Place}
 use Rattle.state.specs.declared.row.Place.TheVariants.{AtSlot, AtFlash}
 use Rattle.state.specs.State.{State, Slot, FlashBody, Body, place_of, in_row, in_body, cell}
-use Rattle.state.specs.Parts.{Separate, FitsSlot, FitsBody, body-shape, body-get-put, row-body, body-indep, body-view-fits}
+use Rattle.state.specs.Parts.{Separate, FitsSlot, FitsBody, body-view-fits}
+use Rattle.state.proofs.Parts.{body-shape, body-get-put, row-body, body-indep}
 use Rattle.state.specs.Words.{word_of, ident, blob, in_use, Live, free_slot, word_with, flags_in, status_in, clean_in, writing_in, store_flags, writes_with, write_bit, store-flags, store-reads, store_writes}
 use Rattle.state.specs.Soundness.{slot_at, is_sound}
 use Rattle.state.specs.Facts.{StoreFacts, StoreIdle, FlashIdle, PhaseOk, Session, Sound}

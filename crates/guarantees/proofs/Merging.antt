@@ -19,7 +19,8 @@ use Rattle.protocol.specs.declared.Request.TheVariants.{Count, Enumerate, Open, 
 use Rattle.state.specs.declared.row.Place.{Place}
 use Rattle.state.specs.declared.row.Place.TheVariants.{AtSlot, AtFlash}
 use Rattle.state.specs.State.{State, Row, Body, place_of, in_row, in_body, cell}
-use Rattle.state.specs.Parts.{InRange, cell-indep, cell-steady, FitsRow, FitsBody, row-view-fits, body-view-fits}
+use Rattle.state.specs.Parts.{InRange, FitsRow, FitsBody, row-view-fits, body-view-fits}
+use Rattle.state.proofs.Parts.{cell-indep, cell-steady}
 use Rattle.state.specs.Words.{ident, blob, Live}
 use Rattle.state.specs.Soundness.{is_sound}
 use Rattle.state.specs.Facts.{Session, Sound}

@@ -20,7 +20,7 @@ use Rattle.protocol.specs.declared.Request.TheVariants.{Count, Enumerate, Open, 
 use Rattle.state.specs.declared.row.Place.{Place}
 use Rattle.state.specs.declared.row.Place.TheVariants.{AtSlot, AtFlash}
 use Rattle.state.specs.State.{State, Row, Slot, FlashBody, Body, place_of, in_row, in_body, cell}
-use Rattle.state.specs.Parts.{cell-steady}
+use Rattle.state.proofs.Parts.{cell-steady}
 use Rattle.state.specs.Words.{blob_of, status_of, writes, blob, free_slot}
 use Rattle.state.specs.Soundness.{is_sound, slot_at}
 use Rattle.rules.specs.Store.{read_store, stored, write_store, commit_writing, commit_store, on_store}

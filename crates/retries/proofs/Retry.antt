@@ -25,7 +25,8 @@ use Rattle.protocol.specs.declared.Request.TheVariants.{Count, Enumerate, Open, 
 use Rattle.state.specs.declared.row.Place.{Place}
 use Rattle.state.specs.declared.row.Place.TheVariants.{AtSlot, AtFlash}
 use Rattle.state.specs.State.{State, Row, Slot, FlashBody, Body, place_of, in_row, in_body, cell}
-use Rattle.state.specs.Parts.{FitsSlot, cell-get-put, cell-steady, row-view-fits, body-view-fits, row_put}
+use Rattle.state.specs.Parts.{FitsSlot, row-view-fits, body-view-fits}
+use Rattle.state.proofs.Parts.{cell-get-put, cell-steady, row_put}
 use Rattle.state.specs.Words.{id_of, blob_of, status_of, writes_with, store_flags, flash_flags, ident, blob, Live, free_row, free_slot}
 use Rattle.state.specs.Soundness.{slot_at, is_sound}
 use Rattle.state.specs.Facts.{Session, Sound}

@@ -22,7 +22,7 @@ use Rattle.protocol.specs.declared.Request.{Request}
 use Rattle.protocol.specs.declared.Request.TheVariants.{Open, Close, Delete}
 use Rattle.state.specs.declared.row.Place.TheVariants.{AtSlot}
 use Rattle.state.specs.State.{State, Row, Slot, in_row, in_body}
-use Rattle.state.specs.Parts.{body-get-put, body-indep}
+use Rattle.state.proofs.Parts.{body-get-put, body-indep}
 use Rattle.state.specs.Words.{blob, in_use, Live, writes, store-reads, free_slot}
 use Rattle.state.specs.Soundness.{slot_at, is_sound}
 use Rattle.state.specs.Facts.{Sound}

@@ -23,7 +23,8 @@ use Rattle.protocol.specs.declared.Request.{Request}
 use Rattle.protocol.specs.declared.Request.TheVariants.{Count, Enumerate, Open, Read, Write, Commit, Close, Delete, Stat, SessionStat, WriteMeta, Refused}
 use Rattle.state.specs.declared.row.Place.TheVariants.{AtSlot}
 use Rattle.state.specs.State.{State, Row, Slot, in_row, in_body, cell}
-use Rattle.state.specs.Parts.{FitsSlot, cell-body-other, body-view-fits, row-body, body-indep, body-get-put}
+use Rattle.state.specs.Parts.{FitsSlot, body-view-fits}
+use Rattle.state.proofs.Parts.{cell-body-other, row-body, body-indep, body-get-put}
 use Rattle.state.specs.Words.{writes_with, free_slot, in_use, blob, Live}
 use Rattle.state.specs.Soundness.{slot_at, is_sound}
 use Rattle.state.specs.Facts.{Sound}

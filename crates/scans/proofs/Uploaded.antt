@@ -13,7 +13,8 @@ use Rattle.protocol.specs.declared.Blob.TheVariants.{Store}
 use Rattle.protocol.specs.declared.Request.TheVariants.{Open, Read, Commit, SessionStat}
 use Rattle.state.specs.declared.row.Place.TheVariants.{AtSlot}
 use Rattle.state.specs.State.{State, Row, Slot, in_row, cell}
-use Rattle.state.specs.Parts.{cell-get-put, body-view-fits}
+use Rattle.state.specs.Parts.{body-view-fits}
+use Rattle.state.proofs.Parts.{cell-get-put}
 use Rattle.state.specs.Words.{id_of, blob_of, word_of, writes, store_flags, ident, blob, Live, stamped, with_clean}
 use Rattle.state.specs.Soundness.{slot_at, is_sound}
 use Rattle.state.specs.Facts.{Sound}
