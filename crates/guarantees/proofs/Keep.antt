@@ -42,7 +42,8 @@ use Rattle.guarantees.proofs.Merging.{on-row-sound}
 use Rattle.guarantees.proofs.StorePart.{freed-fits}
 use Rattle.guarantees.proofs.FlashPart.{uploading-not-idle}
 use Rattle.rules.proofs.Identifiers.{after_small, fresh-small, fresh-unused}
-use Rattle.protocol.specs.Inside.{BlobInside, Inside, decoded-inside}
+use Rattle.protocol.specs.Inside.{BlobInside, Inside}
+use Rattle.protocol.proofs.Inside.{decoded-inside}
 use Rattle.protocol.proofs.Naming.{field-of-name}
 use Rattle.rules.specs.Searches.{free-row, free-slot, named-slot, no_name, no-row-on, no-flash-row, found-live}
 use Rattle.rules.specs.Lookup.{slot_named, free_row_in, free_slot_in, after, fresh_id}
