@@ -39,7 +39,8 @@ use Rattle.rules.proofs.Messages.{thirty_two_bits, four_bytes, sent}
 use Rattle.rules.proofs.Situations.{writer, writer-slot, other-slot}
 use Rattle.rules.specs.Flash.{write_flash, startable, verify_job, update_job, commit_kind, commit_flash, on_flash, flash_length}
 use Rattle.rules.proofs.Examples.{count-answer}
-use Rattle.rules.specs.Counting.{flash_count, count-is}
+use Rattle.rules.specs.Counting.{flash_count}
+use Rattle.rules.proofs.Counting.{count-is}
 use Rattle.rules.specs.Respond.{Effect, respond}
 use Rattle.state.specs.Agree.{sound-of-test}
 use Rattle.rules.specs.Lookup.{slot_named, fresh_id, after}

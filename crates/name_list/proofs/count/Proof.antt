@@ -6,7 +6,8 @@ use lib.Count.{ones, ones-le}
 use Rattle.laws.specs.Bytes.{bytes_of}
 use Rattle.protocol.specs.Frame.{reply}
 use Rattle.state.specs.State.{state_of}
-use Rattle.rules.specs.Counting.{flash_count, count-is}
+use Rattle.rules.specs.Counting.{flash_count}
+use Rattle.rules.proofs.Counting.{count-is}
 use Rattle.name_list.specs.Laws.{few-listed}
 use borrow.Author.Rules.{rules}
 use Rattle.name_list.proofs.count.Statement.{statement}
