@@ -1,0 +1,9 @@
+-- `after_write`: empty or not.
+use Rattle.std.proofs.Common.{eq-eqb, ne_eqb}
+use Rattle.session_store.proofs.after_write.Goals as goal
+
+pub returns-then-n-eq0 : goal.returns-then-n-eq0
+returns-then-n-eq0 c = rw (eq-eqb _ _ c.if-n-eq0.true)
+
+pub returns-else-n-eq0 : goal.returns-else-n-eq0
+returns-else-n-eq0 c = rw (ne_eqb _ _ c.if-n-eq0.false) c.with_clean.ensures
