@@ -34,7 +34,7 @@ use Rattle.rules.specs.Listing.{count, enumerated}
 use Rattle.rules.specs.Respond.{Effect, answered, respond}
 use Rattle.rules.specs.Searches.{none_found}
 use Rattle.rules.proofs.Examples.{reply-is, refused-code}
-use Rattle.guarantees.proofs.Merging.{of_session}
+use Rattle.guarantees.specs.Merging.{of_session}
 use Rattle.guarantees.proofs.Sessions.{asked_of}
 
 -- ---- the table

@@ -12,7 +12,8 @@ use Rattle.state.specs.State.{State}
 use Rattle.state.specs.Soundness.{is_sound}
 use Rattle.rules.specs.Respond.{Effect, effect_of, unsound, answered, respond}
 use Rattle.rules.proofs.Messages.{sent}
-use Rattle.guarantees.proofs.Fits.{Short, short-answered}
+use Rattle.guarantees.proofs.Fits.{short-answered}
+use Rattle.guarantees.specs.Fits.{Short}
 use Rattle.answers.proofs.Replies.{refusals, has_fields, Fine, Known, decoded-known, answered-fine}
 
 -- header, CRC of the fields, and the fields, at most 58 bytes of them (rules 1.6 and 3.2)

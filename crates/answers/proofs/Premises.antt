@@ -42,7 +42,7 @@ use Rattle.rules.proofs.Situations.{scan_name, letter_a, writer, writer-sound, w
 use Rattle.rules.proofs.Examples.{starred}
 use Rattle.rules.proofs.Excluded.{moreau, only-the-whole-name, after_commit, flash_size}
 use Rattle.guarantees.proofs.FlashPart.{uploading-not-idle}
-use Rattle.guarantees.proofs.Merging.{of_session}
+use Rattle.guarantees.specs.Merging.{of_session}
 use Rattle.answers.proofs.Shown.{ShowsName, ShowsSession, NoneOn, session-stat-shows, stat-shows-session, stat-shows-scan, stat-shows-flash-session, stat-shows-flash, stat-shows-base}
 use Rattle.answers.proofs.Jobs.{Committed, commit-starts, outcome-ends, outcome-without-job}
 use Rattle.answers.proofs.OnlyCommit.{Own, only-commit-starts}

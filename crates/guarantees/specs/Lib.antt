@@ -1,0 +1,5 @@
+
+pub mod Merging
+pub mod FlashPromise
+pub mod Fits
+pub mod Refusals

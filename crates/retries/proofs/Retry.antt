@@ -50,7 +50,8 @@ use Rattle.rules.specs.Searches.{free-row, free-slot, named-slot, found-row, non
 use Rattle.rules.proofs.Change.{Proper, row_new}
 use Rattle.guarantees.proofs.Merging.{in-range, proper-row, on-row-sound}
 use Rattle.guarantees.proofs.Keep.{number-high, swept-sound, respond-sound}
-use Rattle.guarantees.proofs.Refusals.{left_by, left_in, refused-message}
+use Rattle.guarantees.proofs.Refusals.{refused-message}
+use Rattle.guarantees.specs.Refusals.{left_by, left_in}
 use Rattle.scans.proofs.Found.{named-at}
 use Rattle.scans.proofs.Left.{absent_none, gone-absent}
 use Rattle.retries.proofs.Twice.{part-again, part-goes}

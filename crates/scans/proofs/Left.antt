@@ -38,7 +38,7 @@ use Rattle.rules.specs.Named.{delete_store, delete_blob}
 use Rattle.rules.specs.Respond.{Effect, effect_of, answered, respond}
 use Rattle.rules.proofs.Laws.{respond-is, cond_has, some-has, none_has}
 use Rattle.rules.specs.Searches.{named-slot}
-use Rattle.guarantees.proofs.Merging.{message}
+use Rattle.guarantees.specs.Merging.{message}
 use Rattle.guarantees.proofs.StorePart.{freed-fits}
 use Rattle.guarantees.proofs.Keep.{sweep-rows-sound, respond-sound}
 use Rattle.rules.proofs.Committed.{same_name}

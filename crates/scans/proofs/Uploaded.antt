@@ -31,9 +31,11 @@ use Rattle.rules.specs.Respond.{Effect, effect_of, answered, respond}
 use Rattle.rules.proofs.OpenLaws.{open-store-has}
 use Rattle.rules.specs.Searches.{free-row}
 use Rattle.rules.proofs.Messages.{sent}
-use Rattle.guarantees.proofs.Merging.{Event, on-row-sound}
+use Rattle.guarantees.proofs.Merging.{on-row-sound}
+use Rattle.guarantees.specs.Merging.{Event}
 use Rattle.guarantees.proofs.Keep.{swept-sound, respond-sound}
-use Rattle.guarantees.proofs.FlashPromise.{run, run_sound}
+use Rattle.guarantees.proofs.FlashPromise.{run_sound}
+use Rattle.guarantees.specs.FlashPromise.{run}
 use Rattle.guarantees.proofs.Sessions.{asked_of}
 use Rattle.rules.proofs.Committed.{Scan, scan_in, same_name, has_name, commits}
 use Rattle.scans.proofs.Scan.{scan_of, left_alone}
