@@ -45,7 +45,7 @@ use Rattle.rules.proofs.Change.{Proper, row_new}
 use Rattle.rules.proofs.Excluded.{HasJob}
 use Rattle.guarantees.proofs.Merging.{proper-row}
 use Rattle.guarantees.proofs.Keep.{sweep-rows-sound, swept-sound}
-use Rattle.answers.proofs.Jobs.{OnJob}
+use Rattle.answers.specs.OnlyCommit.{Own}
 
 -- ---- a session's command
 -- the command starts the job of a session on this flash name: a Commit, its length byte right, of verify or update
@@ -254,12 +254,6 @@ job-blob b h = go (job-if (eqb b image_blob) (eqb b hash_blob) (eqb b verify_blo
     go : Or (eqb b verify_blob ≡ true) (eqb b update_blob ≡ true) → Or (b ≡ verify_blob) (b ≡ update_blob)
     go (this e) = this (eqb-true b verify_blob e)
     go (that e) = that (eqb-true b update_blob e)
-
--- the request is a Commit of the session of row i, which is on verify or update
-pub record Own (i : ℕ) (s : State) (q : Request) : Type 0 where
-  pub is_live : Live i s
-  pub on-job : OnJob i s
-  pub commits : q ≡ Commit (ident i s) 0 0
 
 module _ (t i : ℕ) (m : List ℕ) (s : State) (g : Sound s) where
   -- a job of row i that runs did so before, or q started it

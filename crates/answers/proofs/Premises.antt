@@ -43,11 +43,14 @@ use Rattle.rules.proofs.Examples.{starred}
 use Rattle.rules.proofs.Excluded.{moreau, only-the-whole-name, after_commit, flash_size}
 use Rattle.guarantees.proofs.FlashPart.{uploading-not-idle}
 use Rattle.guarantees.specs.Merging.{of_session}
-use Rattle.answers.proofs.Shown.{ShowsName, ShowsSession, NoneOn, session-stat-shows, stat-shows-session, stat-shows-scan, stat-shows-flash-session, stat-shows-flash, stat-shows-base}
+use Rattle.answers.proofs.Shown.{session-stat-shows, stat-shows-session, stat-shows-scan, stat-shows-flash-session, stat-shows-flash, stat-shows-base}
+use Rattle.answers.specs.Shown.{ShowsName, ShowsSession, NoneOn}
 use Rattle.answers.proofs.Jobs.{Committed, commit-starts, outcome-ends, outcome-without-job}
-use Rattle.answers.proofs.OnlyCommit.{Own, only-commit-starts}
+use Rattle.answers.proofs.OnlyCommit.{only-commit-starts}
+use Rattle.answers.specs.OnlyCommit.{Own}
 use Rattle.answers.proofs.BySession.{session-codes, absent-code}
-use Rattle.answers.proofs.Faults.{frame_fault, fault-code}
+use Rattle.answers.proofs.Faults.{fault-code}
+use Rattle.answers.specs.Faults.{frame_fault}
 use Rattle.answers.proofs.ByName.{in-stat, delete-by-name, wrong-form}
 
 -- ---- messages
