@@ -1,4 +1,3 @@
-
 pub mod Merging
 pub mod FlashPromise
 pub mod Fits
