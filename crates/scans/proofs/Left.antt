@@ -45,6 +45,7 @@ use Rattle.rules.proofs.Committed.{same_name}
 use Rattle.scans.proofs.Scan.{scan_of, asks_to_replace}
 use Rattle.guarantees.proofs.After.{own-part, other-slot, open_is}
 use Rattle.scans.proofs.Safe.{event-leaves}
+use Rattle.scans.specs.Left.{Gone}
 
 -- ---- Close and Open
 -- a message that does not ask to replace it leaves the scan, whatever it is answered
@@ -119,22 +120,6 @@ module _ (n : List ℕ) where
 reads_none : (n : List ℕ) (t : ℕ) (s : State) → slot_named n s ≡ none → open_store n read_only t s ≡ (refused not_found, s)
 unfolding open_store
 reads_none n t s e = rw (store-reads, e)
-
--- ---- Delete
--- what is left of the name n after it was deleted, in the state y that was s
-pub record Gone (n : List ℕ) (s y : State) : Type 0 where
-  -- the slot that had it is zero in all its parts, and every other is as it was
-  pub slot : ℕ
-  pub had : slot_named n s ≡ some slot
-  pub zero : slot_at slot y ≡ free_slot
-  pub others : (k : ℕ) → k ≢ slot → slot_at k y ≡ slot_at k s
-  -- so are the sessions, the flash and the two values that no session has
-  pub sessions-kept : y.sessions ≡ s.sessions
-  pub flash-kept : y.flash_group ≡ s.flash_group
-  pub next-kept : y.next ≡ s.next
-  pub sweep-kept : y.last_sweep ≡ s.last_sweep
-  -- no Open for reading finds it, whenever it comes
-  pub is_not_found : (t at len : ℕ) (m : List ℕ) → decoded m ≡ Open read_only (Store at len) → same_name (part at len m) n ≡ true → (respond t m y).code ≡ not_found
 
 module _ (n : List ℕ) (s : State) (g : Sound s) (k : ℕ) (e : slot_named n s ≡ some k) where
   abbrev freed : State

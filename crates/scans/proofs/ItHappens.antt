@@ -50,8 +50,11 @@ use Rattle.rules.proofs.Committed.{same_name, has_name, commits}
 use Rattle.scans.proofs.Scan.{scan_of, left_alone, asks_to_replace}
 use Rattle.guarantees.proofs.After.{own-part, own-reply, open_is}
 use Rattle.scans.proofs.Safe.{sweep-same}
-use Rattle.scans.proofs.Uploaded.{found-there, commit-keeps, Uploaded, upload-shown}
-use Rattle.scans.proofs.Left.{close-leaves, Gone, deleted-gone}
+use Rattle.scans.proofs.Uploaded.{found-there, upload-shown}
+use Rattle.scans.proofs.CommitKeeps.{commit-keeps}
+use Rattle.scans.specs.Uploaded.{Uploaded}
+use Rattle.scans.proofs.Left.{close-leaves, deleted-gone}
+use Rattle.scans.specs.Left.{Gone}
 
 -- ---- the messages
 -- the name `/scan/a`
