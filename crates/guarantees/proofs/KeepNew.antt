@@ -43,7 +43,7 @@ unused-alone k s g h z q l = go (place-cases (place_of (blob q s)) (AtSlot k))
     go (inr m) = m
 
 -- ---- Open, of a store name
-new-sound : (n : List ℕ) (t r k : ℕ) (s : State) → Sound s → store_name n ≡ true → slot_named n s ≡ none → (r < row_count) × (((in_row r).get s).used ≡ 0) → (k < slot_count) × ((slot_at k s).held ≡ 0)
+pub new-sound : (n : List ℕ) (t r k : ℕ) (s : State) → Sound s → store_name n ≡ true → slot_named n s ≡ none → (r < row_count) × (((in_row r).get s).used ≡ 0) → (k < slot_count) × ((slot_at k s).held ≡ 0)
     → Sound (opened (AtSlot k) r k read_write 0 t (new_slot n) s).1
 new-sound n t r k s g nm none-held fr fs =
     opened-sound s g r fr.0 fr.1 (AtSlot k) k read_write 0 t (new_slot n) (place-slot k fs.0) (unused-alone k s g fs.0 fs.1)

@@ -31,7 +31,7 @@ run s [] = s
 run s (e ∷ es) = run (next s e) es
 
 -- the job status of a session on a flash name, 0 without one
-abbrev status_at : Option ℕ → State → ℕ
+abbrev pub status_at : Option ℕ → State → ℕ
 status_at none s = 0
 status_at (some r) s = status_of ((in_row r).get s)
 
