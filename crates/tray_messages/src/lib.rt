@@ -54,8 +54,8 @@ fn answer_at(
     responses: &mut [u8],
     at: usize,
 ) -> Response
-    requires hash_value { is_sound (state_of control table.old names.old committed.old staged.old image.old hash.old) ≡ true }
-    requires size_in_bounds { (start + size ≤ length records.now) × (at + answer_size ≤ length responses.old) }
+    requires sound { is_sound (state_of control table.old names.old committed.old staged.old image.old hash.old) ≡ true }
+    requires in_bounds { (start + size ≤ length records.now) × (at + answer_size ≤ length responses.old) }
     ensures { served_of result table.new names.new committed.new staged.new image.new hash.new responses.new ≡ served_at (respond clock (part start size records.now) (state_of control table.old names.old committed.old staged.old image.old hash.old)) responses.old at }
 {
     let behind = start + size;
@@ -88,7 +88,7 @@ pub fn answer_all(
     responses: &mut [u8],
     results: &mut [u32],
 ) -> Answered
-    requires hash_value { is_sound (state_of control table.old names.old committed.old staged.old image.old hash.old) ≡ true }
+    requires sound { is_sound (state_of control table.old names.old committed.old staged.old image.old hash.old) ≡ true }
     requires results_len { length results.old ≡ tray_most }
     ensures { tray_of result table.new names.new committed.new staged.new image.new hash.new responses.new results.new ≡ tray_done (done_in (length responses.old) (messages_in records.now) (state_of control table.old names.old committed.old staged.old image.old hash.old)) responses.old results.old }
 {

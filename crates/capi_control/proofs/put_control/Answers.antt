@@ -1,0 +1,29 @@
+-- `put_control`: four runs of words, one behind the other, fill the block.
+use Rattle.std.proofs.Common.{◌≡◌, sym, ◌∙◌, ℕ, arith, length}
+use Rattle.std.proofs.lemmas.List.{length-map}
+use Rattle.capi_control.proofs.Laws.{put-control}
+use Rattle.protocol.specs.Numbers.{slot_count}
+use Rattle.capi_control.proofs.put_control.Goals as goal
+use Rattle.capi_control.proofs.put_control.Goals.{Start}
+
+-- both arrays have 16 lengths
+committed-lens : (c : Start) → length c.args.control.committed_len ≡ slot_count
+committed-lens c = c.well_formed.1.0.1.1.1.1.1.0.1.0.1
+
+staged-lens : (c : Start) → length c.args.control.staged_len ≡ slot_count
+staged-lens c = c.well_formed.1.0.1.1.1.1.1.1.0.1.0.1
+
+pub put_words-requires-2 : goal.put_words-requires-2
+put_words-requires-2 c = omega (arith, committed-lens (goal.at.put_words-requires-2 c).Start)
+
+pub put_words-requires-3 : goal.put_words-requires-3
+put_words-requires-3 c = omega (arith, staged-lens (goal.at.put_words-requires-3 c).Start)
+
+pub returns : goal.returns
+returns c =
+    put-control c.args.control _ c.args.words.now _ _ _ _ c.requires (committed-lens (goal.at.returns c).Start) (staged-lens (goal.at.returns c).Start)
+    c.phase_number.ensures
+    c.put_words.ensures
+    c.put_words-2.ensures
+    c.put_words-3.ensures
+    c.put_words-4.ensures

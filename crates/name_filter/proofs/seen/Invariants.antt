@@ -1,0 +1,11 @@
+-- `seen`: the answer so far is carried along, over the places passed.
+use Rattle.std.proofs.Common.{◌≡◌, ℕ, ◌-◌, ◌≤◌}
+use Rattle.laws.specs.All.{all}
+use Rattle.name_filter.specs.Filter.{probes, bit_at, place_of}
+use Rattle.name_filter.proofs.seen.Given as goal
+
+abbrev pub invariant-loop-i : goal.invariant-loop-i
+invariant-loop-i l = (l.i ≤ probes) × (l.ok ≡ all (λ (k : ℕ). bit_at l.filter (place_of l.hash k)) l.i)
+
+abbrev pub decreases-loop-i : goal.decreases-loop-i
+decreases-loop-i l = probes - l.i

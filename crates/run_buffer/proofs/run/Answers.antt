@@ -1,0 +1,77 @@
+-- `run`: the run over the bytes so far, then the run over those that are left.
+use Rattle.std.proofs.Common.{◌≡◌, refl, sym, ◌∙◌, ap, subst, Bool, ◌&&◌, ⊎_elim, ℕ, ◌-◌, ◌+◌, ◌≤◌, arith, eqb, length}
+use Rattle.protocol.specs.Numbers.{answer_size}
+use Rattle.records.proofs.Found.{Found, found, found_in, found_none}
+use Rattle.records.specs.contracts.Record.{enum}
+use Rattle.records.specs.declared.Record.{Record}
+use Rattle.records.specs.declared.Record.TheVariants.{Whole}
+use Rattle.request_answer.specs.Call.{answerable}
+use Rattle.run_buffer.specs.Progress.{begins, ends-full, ends-none, goes_to, able-kept}
+use Rattle.run_buffer.specs.Step.{Stepped}
+use Rattle.run_lines.specs.Lines.{line_most}
+use denote.Enum.Declared.{tag_of, declared}
+use Rattle.run_buffer.proofs.run.Goals as goal
+use Rattle.run_buffer.proofs.run.Goals.{In-Whole}
+
+pub sound-requires : goal.sound-requires
+sound-requires c = tt
+
+pub loop-text-init : goal.loop-text-init
+loop-text-init c =
+    (begins _ _ _ _, refl, refl, refl, refl, refl, refl, refl, ap (λ (y : Bool). y && eqb (length c.args.answer.now) answer_size) c.sound.ensures)
+
+pub overflow_sub-text : goal.overflow_sub-text
+overflow_sub-text c = let p = c.loop-text.invariant.0 in omega arith
+
+pub record_at-requires : goal.record_at-requires
+record_at-requires c = tt
+
+-- the record that the code found, and the room for its line
+record-found : (c : In-Whole) → Found c.args.records.now c.loop-text.used c.in-Whole.clock c.in-Whole.start
+    c.in-Whole.len c.in-Whole.next
+record-found c = found _ _ _ _ _ _ (sym c.in-Whole.is ∙ c.record_at.ensures)
+
+room : (c : In-Whole) → c.loop-text.end + line_most ≤ length c.args.text.now
+room c =
+    let l = c.loop-text in
+    let p = l.invariant.0.end-in in
+    let q = l.invariant.0.as_long in
+    omega (arith, c.loop-text-test.true)
+
+pub answer_one-done-requires : goal.answer_one-done-requires
+answer_one-done-requires c =
+    record { able_value = c.loop-text.invariant.8; len_in_bounds = ((found_in (record-found (goal.at.answer_one-done-requires c).In-Whole)).0, rw c.loop-text.invariant.0.as_long (room (goal.at.answer_one-done-requires c).In-Whole)) }
+
+pub loop-text-smaller : goal.loop-text-smaller
+loop-text-smaller c =
+    let f = found_in (record-found (goal.at.loop-text-smaller c).In-Whole) in
+    let p = f.1 in
+    let q = f.2 in
+    omega arith
+
+pub loop-text-preserved : goal.loop-text-preserved
+loop-text-preserved c =
+    let l = c.loop-text in
+    let k = c.answer_one-done.auto in (
+      goes_to _ _ _ _ _ _ _ _ _ l.invariant.0 (record-found (goal.at.loop-text-preserved c).In-Whole) (room (goal.at.loop-text-preserved c).In-Whole) c.answer_one-done.ensures,
+      k.table ∙ l.invariant.1,
+      k.names ∙ l.invariant.2,
+      k.committed ∙ l.invariant.3,
+      k.staged ∙ l.invariant.4,
+      k.image ∙ l.invariant.5,
+      k.hash ∙ l.invariant.6,
+      k.answer ∙ l.invariant.7,
+      l.invariant.8 ∙ sym (able-kept _ _ _ _) ∙ ap (λ (w : Stepped). answerable w.state w.answer) (sym c.answer_one-done.ensures),
+    )
+
+pub returns-after-loop-text : goal.returns-after-loop-text
+returns-after-loop-text c =
+    let p = c.loop-text.invariant.0 in
+    record { text_after = ends-full _ _ _ _ _ _ _ _ _ p (omega arith); len_in_bounds = (rw p.as_long p.end-in, p.at_in) }
+
+pub returns-in_default : goal.returns-in_default
+returns-in_default c =
+    let p = c.loop-text.invariant.0 in record {
+      text_after = ends-none _ _ _ _ _ _ _ _ _ p (found_none _ _ c.record_at.result c.record_at.ensures c.in_default.not-Whole);
+      len_in_bounds = (rw p.as_long p.end-in, p.at_in);
+    }

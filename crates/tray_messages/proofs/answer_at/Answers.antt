@@ -1,0 +1,17 @@
+-- `answer_at`: the message is answered into the 64 bytes from a place on.
+use Rattle.std.proofs.Common.{◌∙◌, ap, List, ℕ}
+use Rattle.laws.specs.Ranges.{part, lent-part}
+use Rattle.rules.specs.Respond.{served}
+use Rattle.state.specs.State.{state_of}
+use Rattle.tray_messages.proofs.Placed.{lent, can-answer, answered-at}
+use Rattle.tray_messages.proofs.answer_at.Goals as goal
+
+pub answer-requires : goal.answer-requires
+answer-requires c =
+    can-answer c.args.responses.now c.args.at c.requires.in_bounds.1 ((let a = c.args in state_of a.control a.table.now a.names.now a.committed.now a.staged.now a.image.now a.hash.now)) c.requires.sound
+
+pub returns : goal.returns
+returns c =
+    let a = c.args in
+    answered-at a.responses.now a.at c.requires.in_bounds.1 a.clock (part a.start a.size a.records.now) ((let a = c.args in state_of a.control a.table.now a.names.now a.committed.now a.staged.now a.image.now a.hash.now))
+    (c.answer.ensures ∙ ap (λ (m : List ℕ). served a.clock m ((let a = c.args in state_of a.control a.table.now a.names.now a.committed.now a.staged.now a.image.now a.hash.now)) (lent a.responses.now a.at)) (lent-part a.start a.size a.records.now))
