@@ -25,6 +25,7 @@ use Rattle.rules.specs.Session.{on_part, on_found, on_session, row_found}
 use Rattle.rules.specs.Respond.{Effect, effect_of, unsound, answered, respond}
 use Rattle.rules.proofs.Messages.{write_most}
 use Rattle.guarantees.proofs.Fits.{bytes-long}
+use Rattle.answers.specs.Bounds.{Few}
 
 -- ---- Write
 -- a message that asks something is no longer than a message may be
@@ -73,13 +74,6 @@ write-carries m session offset start e =
     subst (Carries m) e
     (decoded-case (Carries m) m tt tt tt (λ _ (c : subcommand m ≤ write_meta_command) _. each-command (λ (sub : ℕ). Carries m (asked sub m)) (subcommand m) (asked-carries m) c))
     (message-short m (let z : number_of (decoded m) ≡ write_command = ap number_of e in omega arith))
-
--- ---- Read
--- the fields are at most as many as asked for, and at most 58
-abbrev Few : ℕ → Reply → Type 0
-Few n (refused code) = Unit {0}
-Few n done = Unit {0}
-Few n (reply f) = length f ≤ min n read_most
 
 part-few : (p : Place) (t offset n : ℕ) (r : Row) (b : Body p) → Few n (on_part p t (read offset n) r b).0
 unfolding on_store on_flash read_store

@@ -1,5 +1,5 @@
 -- The completion code of Open, Delete and Stat by the kind of name, as tables of their own, in the order of document 01's checks. Assumes nothing.
-use Rattle.std.specs.Prelude.{◌≡◌, refl, Bool, true, false, ◌&&◌, ◌||◌, List, ℕ, ◌+◌, eqb, drop}
+use Rattle.std.specs.Prelude.{◌≡◌, refl, Bool, true, false, ◌&&◌, List, ℕ, ◌+◌, eqb, drop}
 use Rattle.std.proofs.Common.{sym, ◌∙◌, subst}
 use Rattle.std.proofs.Math.Path.{ap}
 use Rattle.std.proofs.Math.Bool.{cond}
@@ -7,7 +7,7 @@ use Rattle.std.proofs.Math.Option.{Option, none, some}
 use Rattle.laws.specs.All.{Or, this, that}
 use Rattle.laws.specs.Find.{is_some}
 use Rattle.laws.specs.Ranges.{part}
-use Rattle.protocol.specs.Numbers.{success, invalid, not_found, busy, no_room, not_supported, open_command, delete_command, stat_command}
+use Rattle.protocol.specs.Numbers.{success, invalid, not_found, busy, no_room, open_command, delete_command, stat_command}
 use Rattle.protocol.specs.Numbers.{read_only, read_write, write_only}
 use Rattle.protocol.specs.Names.{flash_number, name_form}
 use Rattle.protocol.specs.Decode.{decoded, asked, subcommand, fields_at, with_name, refused_with}
@@ -34,69 +34,9 @@ use Rattle.rules.specs.Open.{open_store, open_flash, open_blob}
 use Rattle.rules.specs.Named.{delete_store, delete_blob, stat_name, stat_kind, stat_blob}
 use Rattle.rules.specs.Respond.{answered, respond}
 use Rattle.rules.proofs.Examples.{reply-is, refused-code}
-use Rattle.answers.proofs.Faults.{frame_fault, decoded-by-frame}
-
--- ---- the situations
--- a session is on the blob; the flash session is open; a row is free; a slot is free
-abbrev pub session_on : (blob : ℕ) → State → Bool
-session_on b s = is_some (row_found (OnBlob b) s)
-
-abbrev pub flash_open : State → Bool
-flash_open s = is_some (row_found OnFlash s)
-
-abbrev pub row_free : State → Bool
-row_free s = is_some (free_row_in s)
-
-abbrev pub slot_free : State → Bool
-slot_free s = is_some (free_slot_in s)
-
--- a flash name is there in a phase: all but verify in Idle, and update anywhere but in Verified (rule 8.2)
-abbrev pub there : FlashKind → Phase → Bool
-there Image p = true
-there Hash p = true
-there Verify Idle = false
-there Verify Uploading = true
-there Verify Verified = true
-there Update Idle = false
-there Update Uploading = false
-there Update Verified = true
-there Cleanup p = true
-
--- ---- the tables
--- Delete: a store name that no slot holds; one that a slot k holds, open or not (rule 14.1)
-abbrev pub delete_held : Option ℕ → State → ℕ
-delete_held none s = not_found
-delete_held (some k) s = cond (session_on k s) busy success
-
--- by what the name names (rule 14.1)
-abbrev pub delete_code : Blob → List ℕ → State → ℕ
-delete_code Base m s = not_supported
-delete_code (Flash k) m s = not_supported
-delete_code (Store at len) m s = delete_held (slot_named (part at len m) s) s
-delete_code Unknown m s = not_found
-
--- Stat: what is not there (rule 15.1)
-abbrev pub stat_code : Blob → List ℕ → State → ℕ
-stat_code Base m s = success
-stat_code (Flash k) m s = cond (there k s.flash_group.phase) success not_found
-stat_code (Store at len) m s = cond (is_some (slot_named (part at len m) s)) success not_found
-stat_code Unknown m s = not_found
-
--- Open, of a store name with allowed flags: one that no slot holds is absent for reading, and needs a row and a slot for writing; one that a slot k holds needs a row
--- (rules 9.4, 9.6 and 9.7)
-abbrev pub open_held : Option ℕ → (flags : ℕ) → State → ℕ
-open_held none flags s = cond (eqb flags read_only) not_found (cond (row_free s && slot_free s) success no_room)
-open_held (some k) flags s = cond (session_on k s) busy (cond (row_free s) success no_room)
-
--- by what the name names, on the swept state (rule 9.1)
-abbrev pub open_code : Blob → (flags : ℕ) → List ℕ → State → ℕ
-open_code Base flags m s = not_found
-open_code Unknown flags m s = not_found
-open_code (Flash k) flags m s =
-    cond (eqb flags write_only)
-    (cond (there k s.flash_group.phase) (cond (flash_open s) busy (cond (row_free s) success no_room)) not_found)
-    invalid
-open_code (Store at len) flags m s = cond (eqb flags read_only || eqb flags read_write) (open_held (slot_named (part at len m) s) flags s) invalid
+use Rattle.answers.proofs.Faults.{decoded-by-frame}
+use Rattle.answers.specs.Faults.{frame_fault}
+use Rattle.answers.specs.ByName.{flash_open, row_free, slot_free, there, delete_held, delete_code, stat_code, open_held, open_code}
 
 -- ---- how a check's code is found
 -- the code of a reply

@@ -1,10 +1,9 @@
 -- The completion code of the commands on a session, by what the session is on, as a table of its own in the order of document 01's checks; and those of Count and Enumerate.
 -- Assumes nothing.
 use Rattle.std.proofs.Math.Path.{◌≡◌, refl, sym, ap}
-use Rattle.std.proofs.Common.{◌∙◌, subst, true≢false, arith}
+use Rattle.std.proofs.Common.{◌∙◌, subst, arith}
 use Rattle.std.specs.Prelude.{◌≢◌, Bool, ◌&&◌, ◌||◌, ℕ, ◌+◌, eqb, leb, ltb, drop}
 use Rattle.std.proofs.Math.Bool.{true, false, cond}
-use Rattle.std.proofs.Math.Option.{Option, none}
 use mathlib.Core.List.{List, [], ◌∷◌}
 use Rattle.std.proofs.Math.Decide.{ℕ_discrete}
 use borrow.Author.Tests.{eq-eqb, ne_eqb, ltb-true}
@@ -17,7 +16,7 @@ use Rattle.protocol.specs.Frame.{Reply, refused, reply, framed}
 use Rattle.protocol.specs.declared.FlashKind.{FlashKind}
 use Rattle.protocol.specs.declared.FlashKind.TheVariants.{Image, Hash, Verify, Update, Cleanup}
 use Rattle.protocol.specs.declared.Request.{Request}
-use Rattle.protocol.specs.declared.Request.TheVariants.{Count, Enumerate, Open, Read, Write, Commit, Close, Delete, Stat, SessionStat, WriteMeta, Refused}
+use Rattle.protocol.specs.declared.Request.TheVariants.{Count, Enumerate, Read, Write, Commit, Close, SessionStat, WriteMeta}
 use Rattle.state.specs.declared.row.Place.{Place}
 use Rattle.state.specs.declared.row.Place.TheVariants.{AtSlot, AtFlash}
 use Rattle.state.specs.declared.row.Wanted.TheVariants.{Id}
@@ -29,46 +28,14 @@ use Rattle.state.specs.Agree.{sound-of-test, place-slot}
 use Rattle.rules.specs.Command.{Command, read, write, commit, stat, close, write_meta, commit_fits, Out, refuse, placed}
 use Rattle.rules.specs.Store.{read_store, stored, write_store, commit_writing, commit_store, on_store}
 use Rattle.rules.specs.Flash.{write_flash, startable, verify_job, update_job, commit_kind, commit_flash, close_flash, on_flash}
-use Rattle.rules.specs.Session.{on_part, on_row, on_found, on_session}
+use Rattle.rules.specs.Session.{on_part, on_row, on_session}
 use Rattle.rules.specs.Listing.{count, enumerated}
 use Rattle.rules.specs.Respond.{Effect, answered, respond}
-use Rattle.rules.specs.Searches.{none_found}
 use Rattle.rules.proofs.Examples.{reply-is, refused-code}
-use Rattle.guarantees.proofs.Merging.{of_session}
+use Rattle.guarantees.specs.Merging.{of_session}
 use Rattle.guarantees.proofs.Sessions.{asked_of}
-
--- ---- the table
--- the session of row i is on a slot; it is on image or hash
-abbrev pub on_slot : ℕ → State → Bool
-on_slot i s = ltb (blob i s) slot_count
-
-abbrev pub on_upload : ℕ → State → Bool
-on_upload i s = eqb (blob i s) image_blob || eqb (blob i s) hash_blob
-
--- n bytes at an offset into a region: past its length, past its capacity (rule 11.1)
-abbrev pub place_code : (capacity len offset n : ℕ) → ℕ
-place_code capacity len offset n = cond (leb offset len) (cond (leb (offset + n) capacity) success too_long) out_of_range
-
--- Write: a store session that writes, the image, the hash, each with its region; the others do not take it (rules 11.1 and 11.2)
-abbrev pub write_code : (i offset n : ℕ) → State → ℕ
-write_code i offset n s =
-    cond (on_slot i s) (cond (writes ((in_row i).get s)) (place_code slot_size (slot_at (blob i s) s).staged_len offset n) not_supported)
-    (cond (eqb (blob i s) image_blob) (place_code image_size s.flash_group.image_len offset n)
-    (cond (eqb (blob i s) hash_blob) (place_code hash_size s.flash_group.hash_len offset n) not_supported))
-
--- Commit: a length byte of 0 and nothing behind it; a store session that writes, verify, update or cleanup (rule 12.1)
-abbrev pub commit_code : (i len rest : ℕ) → State → ℕ
-commit_code i len rest s =
-    cond (eqb len 0 && eqb rest 0) (cond (on_slot i s) (cond (writes ((in_row i).get s)) success not_supported) (cond (on_upload i s) not_supported success)) invalid
-
--- by what is asked of the session of row i (rules 10.1, 11.1, 12.1, 13.1, 15.2 and 16.1)
-pub record SessionCodes (t i : ℕ) (m : List ℕ) (s : State) : Type 0 where
-  pub of-read : (offset n : ℕ) → decoded m ≡ Read (ident i s) offset n → (respond t m s).code ≡ cond (on_slot i s) success not_supported
-  pub of-write : (offset start : ℕ) → decoded m ≡ Write (ident i s) offset start → (respond t m s).code ≡ write_code i offset (length (drop start m)) s
-  pub of-commit : (len rest : ℕ) → decoded m ≡ Commit (ident i s) len rest → (respond t m s).code ≡ commit_code i len rest s
-  pub of-close : decoded m ≡ Close (ident i s) → (respond t m s).code ≡ cond (eqb (status_of ((in_row i).get s)) running) busy success
-  pub of-session-stat : decoded m ≡ SessionStat (ident i s) → (respond t m s).code ≡ success
-  pub of-write-meta : decoded m ≡ WriteMeta (ident i s) → (respond t m s).code ≡ not_supported
+use Rattle.answers.specs.BySession.{on_slot, on_upload, place_code, write_code, commit_code, SessionCodes}
+use Rattle.answers.proofs.Absent.{absent-reply}
 
 -- ---- each command on a part
 module _ (sub : ℕ) where
@@ -248,28 +215,9 @@ module _ (t i : ℕ) (m : List ℕ) (s : State) (h : is_sound s ≡ true) (l : L
 
 -- ---- no such session
 module _ (t : ℕ) (m : List ℕ) (s : State) (h : is_sound s ≡ true) (id : ℕ) (n : (i : ℕ) → Live i s → ident i s ≢ id) where
-  none-there : (c : Command) → (on_session (Id id) t c s).0 ≡ refused not_found
-  unfolding on_session
-  none-there c = ap (λ (o : Option ℕ). (on_found o (Id id) t c s).0) (none_found (Id id) s (λ (r : ℕ) (l : Live r s). ne_eqb (ident r s) id (n r l)))
-
-  absent-reply : (q : Request) (rest : List ℕ) → of_session (number_of q) ≡ true → values_of q ≡ id ∷ rest → (answered q t m s).0 ≡ refused not_found
-  unfolding answered
-  absent-reply Count rest o v = absurd (true≢false (sym o))
-  absent-reply (Enumerate index) rest o v = absurd (true≢false (sym o))
-  absent-reply (Open flags b) rest o v = absurd (true≢false (sym o))
-  absent-reply (Read session offset k) rest o v = let e : session ≡ id = cc in ap (λ (x : ℕ). (on_session (Id x) t (read offset k) s).0) e ∙ none-there (read offset k)
-  absent-reply (Write session offset start) rest o v = let e : session ≡ id = cc in ap (λ (x : ℕ). (on_session (Id x) t (write offset (drop start m)) s).0) e ∙ none-there (write offset (drop start m))
-  absent-reply (Commit session len k) rest o v = let e : session ≡ id = cc in ap (λ (x : ℕ). (on_session (Id x) t (commit len k) s).0) e ∙ none-there (commit len k)
-  absent-reply (Close session) rest o v = let e : session ≡ id = cc in ap (λ (x : ℕ). (on_session (Id x) t close s).0) e ∙ none-there close
-  absent-reply (Delete b) rest o v = absurd (true≢false (sym o))
-  absent-reply (Stat b) rest o v = absurd (true≢false (sym o))
-  absent-reply (SessionStat session) rest o v = let e : session ≡ id = cc in ap (λ (x : ℕ). (on_session (Id x) t stat s).0) e ∙ none-there stat
-  absent-reply (WriteMeta session) rest o v = let e : session ≡ id = cc in ap (λ (x : ℕ). (on_session (Id x) t write_meta s).0) e ∙ none-there write_meta
-  absent-reply (Refused code) rest o v = absurd (let z : ◌≡◌ {A = ℕ} 0 1 = cc in omega arith)
-
   -- AN IDENTIFIER THAT NO SESSION HAS IS CB (rule 7.14)
   pub absent-code : (rest : List ℕ) → of_session (number_of (decoded m)) ≡ true → values_of (decoded m) ≡ id ∷ rest → (respond t m s).code ≡ not_found
-  absent-code rest o v = (reply-is t m s (decoded m) (refused not_found) h refl (absent-reply (decoded m) rest o v)).0 ∙ refused-code (number_of (decoded m)) not_found
+  absent-code rest o v = (reply-is t m s (decoded m) (refused not_found) h refl (absent-reply t m s id n (decoded m) rest o v)).0 ∙ refused-code (number_of (decoded m)) not_found
 
 -- ---- Count and Enumerate
 -- COUNT IS ALWAYS ACCEPTED, ENUMERATE BELOW THE COUNT (rules 8.3 and 8.4)

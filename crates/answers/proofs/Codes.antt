@@ -1,5 +1,5 @@
 -- Every code is one that document 01 has: of a message one of eleven, of a job outcome one of three. Assumes nothing.
-use Rattle.std.specs.Prelude.{◌≡◌, refl, Bool, true, false, not, cond, List, [], ◌∷◌, ℕ, eqb}
+use Rattle.std.specs.Prelude.{◌≡◌, refl, Bool, true, false, not, cond, List, ℕ, eqb}
 use Rattle.std.proofs.Common.{sym, ◌∙◌, ap, true≢false, eqb-true}
 use Rattle.std.proofs.Math.Option.{Option, none, some}
 use Rattle.laws.specs.All.{or_right}
@@ -18,15 +18,9 @@ use Rattle.rules.specs.Store.{on_store}
 use Rattle.rules.specs.Flash.{job_ends, on_flash}
 use Rattle.rules.specs.Session.{on_part, on_found, on_session, row_found}
 use Rattle.rules.specs.Respond.{Effect, effect_of, unsound, answered, respond, silent, job_outcome}
-use Rattle.answers.proofs.Replies.{refusals, has_fields, Fine, decoded-known, answered-fine}
-
--- the eleven completion codes of a message (rules 7.1 to 7.11)
-abbrev pub documented : List ℕ
-documented = success ∷ not_sound ∷ refusals
-
--- the three of a job outcome (rules 17.1 and 17.3)
-abbrev pub outcomes : List ℕ
-outcomes = success ∷ not_sound ∷ not_supported ∷ []
+use Rattle.answers.proofs.Replies.{Fine, decoded-known, answered-fine}
+use Rattle.answers.specs.Replies.{refusals, has_fields}
+use Rattle.answers.specs.Codes.{documented, outcomes}
 
 -- ---- messages
 not-unsound : (code : ℕ) → one_of code refusals ≡ true → eqb code not_sound ≡ false

@@ -1,11 +1,10 @@
 -- The faults of a message's frame, in the order of document 01: the first decides the code, and where there is none the command's own checks do. Assumes nothing.
-use Rattle.std.specs.Prelude.{◌≡◌, refl, Bool, true, false, cond, ◌&&◌, ◌||◌, List, [], ◌∷◌, ℕ, suc, eqb, leb, length, get_or, take}
+use Rattle.std.specs.Prelude.{◌≡◌, refl, Bool, true, false, cond, ◌&&◌, List, ℕ, suc, leb, length, take}
 use Rattle.std.proofs.Common.{◌∙◌, ap, leb-true}
 use Rattle.std.proofs.Math.Option.{Option, none, some}
-use Rattle.laws.specs.Bytes.{little, same}
-use Rattle.crc.specs.Crc.{crc}
-use Rattle.protocol.specs.Numbers.{wrong_length, invalid, unknown_command, oem, header_size, crc_size, message_size, count_command, enumerate_command, read_command, close_command, session_stat_command, write_meta_command}
-use Rattle.protocol.specs.Decode.{decoded, asked, subcommand, body_length, body_fits, crc_fits, fields, refused_with}
+use Rattle.laws.specs.Bytes.{same}
+use Rattle.protocol.specs.Numbers.{wrong_length, invalid, unknown_command, oem, header_size, message_size, write_meta_command}
+use Rattle.protocol.specs.Decode.{decoded, asked, subcommand, body_length, body_fits, crc_fits, refused_with}
 use Rattle.protocol.specs.Cases.{Each, each-command}
 use Rattle.protocol.specs.Frame.{refused}
 use Rattle.protocol.specs.declared.Request.{Request}
@@ -14,32 +13,7 @@ use Rattle.state.specs.Soundness.{is_sound}
 use Rattle.rules.specs.Checks.{whether}
 use Rattle.rules.specs.Respond.{answered, respond}
 use Rattle.rules.proofs.Examples.{reply-is, refused-code}
-
--- ---- the table
--- the length of each subcommand's body, CRC included: from Count to WriteMeta (rule 3.1)
-abbrev pub body_sizes : List ℕ
-body_sizes = 0 ∷ 6 ∷ 5 ∷ 12 ∷ 8 ∷ 5 ∷ 4 ∷ 3 ∷ 3 ∷ 4 ∷ 8 ∷ []
-
--- these have exactly that length, the others at least (rule 3.1)
-abbrev pub fixed_size : (sub : ℕ) → Bool
-fixed_size sub = eqb sub count_command || (eqb sub enumerate_command || (eqb sub read_command || (eqb sub close_command || eqb sub session_stat_command)))
-
-abbrev pub body_right : (sub n : ℕ) → Bool
-body_right sub n = cond (fixed_size sub) (eqb n (get_or body_sizes sub 0)) (leb (get_or body_sizes sub 0) n)
-
--- the first fault: message length, OEM number, subcommand, body length, CRC (rule 7.13)
-abbrev pub frame_fault : List ℕ → Option ℕ
-frame_fault m =
-    cond (leb header_size (length m) && leb (length m) message_size)
-    (cond (same (take (length oem) m) oem)
-    (cond (leb (subcommand m) write_meta_command)
-    (cond (body_right (subcommand m) (body_length m))
-    (cond (eqb (body_length m) 0 || eqb (little crc_size header_size m) (crc (fields m))) none
-    (some invalid))
-    (some wrong_length))
-    (some unknown_command))
-    (some invalid))
-    (some wrong_length)
+use Rattle.answers.specs.Faults.{body_right, frame_fault}
 
 -- ---- it is what decoding does
 bodies : (n : ℕ) → Each (λ (sub : ℕ). body_fits sub n ≡ body_right sub n) (suc write_meta_command)

@@ -1,30 +1,21 @@
 -- The form of every success: the header of the message's own subcommand, and where the command has fields, their CRC and the fields behind it. Assumes nothing.
-use Rattle.std.specs.Prelude.{◌≡◌, refl, Bool, true, false, cond, List, ℕ, ◌≤◌, length}
+use Rattle.std.specs.Prelude.{◌≡◌, refl, Bool, true, false, cond, List, ℕ, ◌≤◌}
 use Rattle.std.proofs.Common.{sym, ◌∙◌, ap, subst, true≢false, arith}
-use Rattle.protocol.specs.Numbers.{success, read_most, write_meta_command}
+use Rattle.protocol.specs.Numbers.{success, write_meta_command}
 use Rattle.protocol.proofs.NameForms.{one_of}
 use Rattle.protocol.specs.Decode.{decoded, number_of, subcommand}
 use Rattle.protocol.proofs.BodyLayout.{accepted-says}
-use Rattle.protocol.specs.Frame.{Reply, refused, done, reply, framed, header}
+use Rattle.protocol.specs.Frame.{Reply, refused, done, reply, framed}
 use Rattle.protocol.specs.declared.Request.{Request}
 use Rattle.protocol.specs.declared.Request.TheVariants.{Count, Enumerate, Open, Read, Write, Commit, Close, Delete, Stat, SessionStat, WriteMeta, Refused}
 use Rattle.state.specs.State.{State}
 use Rattle.state.specs.Soundness.{is_sound}
 use Rattle.rules.specs.Respond.{Effect, effect_of, unsound, answered, respond}
-use Rattle.rules.proofs.Messages.{sent}
-use Rattle.guarantees.proofs.Fits.{Short, short-answered}
-use Rattle.answers.proofs.Replies.{refusals, has_fields, Fine, Known, decoded-known, answered-fine}
-
--- header, CRC of the fields, and the fields, at most 58 bytes of them (rules 1.6 and 3.2)
-pub record WithFields (sub : ℕ) (response : List ℕ) : Type 0 where
-  pub fields : List ℕ
-  pub as-sent : response ≡ sent sub fields
-  pub few : length fields ≤ read_most
-
--- the response of a success of this subcommand, with fields or without (rules 1.6 and 1.7)
-abbrev pub SuccessForm : (fields : Bool) (sub : ℕ) (response : List ℕ) → Type 0
-SuccessForm true sub response = WithFields sub response
-SuccessForm false sub response = response ≡ header sub
+use Rattle.guarantees.proofs.Fits.{short-answered}
+use Rattle.guarantees.specs.Fits.{Short}
+use Rattle.answers.proofs.Replies.{Fine, Known, decoded-known, answered-fine}
+use Rattle.answers.specs.Replies.{refusals, has_fields}
+use Rattle.answers.specs.Frames.{SuccessForm}
 
 -- a refusal is no success
 refused-not : (code : ℕ) → one_of code refusals ≡ true → code ≡ success → ⊥

@@ -36,10 +36,7 @@ use Rattle.rules.proofs.Excluded.{after_commit, HasJob, Tried, job-starts}
 use Rattle.guarantees.proofs.Merging.{proper-row}
 use Rattle.guarantees.proofs.After.{own-flash}
 use Rattle.guarantees.proofs.Sessions.{asked_of}
-
--- the session of row i is on verify or update
-abbrev pub OnJob : ℕ → State → Type 0
-OnJob i s = Or (blob i s ≡ verify_blob) (blob i s ≡ update_blob)
+use Rattle.answers.specs.Jobs.{OnJob}
 
 -- what a Commit of the session of row i does: it is accepted; the job status becomes running where it was untried or failed, and stays where it was running or succeeded;
 -- on verify the phase is Uploading then, on update Verified (rules 12.4 and 12.5)

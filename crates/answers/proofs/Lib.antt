@@ -9,3 +9,4 @@ pub mod Faults
 pub mod ByName
 pub mod BySession
 pub mod Premises
+pub mod Absent

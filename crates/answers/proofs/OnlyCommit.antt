@@ -23,7 +23,8 @@ use Rattle.state.specs.declared.row.Place.{Place}
 use Rattle.state.specs.declared.row.Place.TheVariants.{AtSlot, AtFlash}
 use Rattle.state.specs.declared.row.Wanted.TheVariants.{Id, OnBlob}
 use Rattle.state.specs.State.{State, Row, FlashBody, Body, place_of, in_row, in_body, cell}
-use Rattle.state.specs.Parts.{cell-row-other, row_put, row-view-fits}
+use Rattle.state.specs.Parts.{row-view-fits}
+use Rattle.state.proofs.Parts.{cell-row-other, row_put}
 use Rattle.state.specs.Words.{blob_of, status_in, status_of, ident, blob, in_use, Live, stamped, with_status, free_slot, status-with, store_flags, store-flags}
 use Rattle.state.specs.Soundness.{slot_at, is_sound}
 use Rattle.state.specs.Facts.{Sound}
@@ -44,7 +45,7 @@ use Rattle.rules.proofs.Change.{Proper, row_new}
 use Rattle.rules.proofs.Excluded.{HasJob}
 use Rattle.guarantees.proofs.Merging.{proper-row}
 use Rattle.guarantees.proofs.Keep.{sweep-rows-sound, swept-sound}
-use Rattle.answers.proofs.Jobs.{OnJob}
+use Rattle.answers.specs.OnlyCommit.{Own}
 
 -- ---- a session's command
 -- the command starts the job of a session on this flash name: a Commit, its length byte right, of verify or update
@@ -253,12 +254,6 @@ job-blob b h = go (job-if (eqb b image_blob) (eqb b hash_blob) (eqb b verify_blo
     go : Or (eqb b verify_blob ≡ true) (eqb b update_blob ≡ true) → Or (b ≡ verify_blob) (b ≡ update_blob)
     go (this e) = this (eqb-true b verify_blob e)
     go (that e) = that (eqb-true b update_blob e)
-
--- the request is a Commit of the session of row i, which is on verify or update
-pub record Own (i : ℕ) (s : State) (q : Request) : Type 0 where
-  pub is_live : Live i s
-  pub on-job : OnJob i s
-  pub commits : q ≡ Commit (ident i s) 0 0
 
 module _ (t i : ℕ) (m : List ℕ) (s : State) (g : Sound s) where
   -- a job of row i that runs did so before, or q started it

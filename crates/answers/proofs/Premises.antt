@@ -26,7 +26,8 @@ use Rattle.state.specs.declared.Phase.TheVariants.{Idle, Uploading}
 use Rattle.state.specs.declared.row.Place.{Place}
 use Rattle.state.specs.declared.row.Place.TheVariants.{AtSlot, AtFlash}
 use Rattle.state.specs.State.{State, Row, Slot, in_row, in_body, cell}
-use Rattle.state.specs.Parts.{Separate, FitsSlot, row_put, row-body, body-indep, body-shape, body-get-put}
+use Rattle.state.specs.Parts.{Separate, FitsSlot}
+use Rattle.state.proofs.Parts.{row_put, row-body, body-indep, body-shape, body-get-put}
 use Rattle.state.specs.Words.{id_of, blob_of, status_of, status_in, ident, Live, fresh, word_with, flags-with, status-with}
 use Rattle.state.specs.Soundness.{slot_at, is_sound}
 use Rattle.state.specs.Facts.{FlashSession, PhaseOk, StoreIdle, Sound}
@@ -41,12 +42,15 @@ use Rattle.rules.proofs.Situations.{scan_name, letter_a, writer, writer-sound, w
 use Rattle.rules.proofs.Examples.{starred}
 use Rattle.rules.proofs.Excluded.{moreau, only-the-whole-name, after_commit, flash_size}
 use Rattle.guarantees.proofs.FlashPart.{uploading-not-idle}
-use Rattle.guarantees.proofs.Merging.{of_session}
-use Rattle.answers.proofs.Shown.{ShowsName, ShowsSession, NoneOn, session-stat-shows, stat-shows-session, stat-shows-scan, stat-shows-flash-session, stat-shows-flash, stat-shows-base}
+use Rattle.guarantees.specs.Merging.{of_session}
+use Rattle.answers.proofs.Shown.{session-stat-shows, stat-shows-session, stat-shows-scan, stat-shows-flash-session, stat-shows-flash, stat-shows-base}
+use Rattle.answers.specs.Shown.{ShowsName, ShowsSession, NoneOn}
 use Rattle.answers.proofs.Jobs.{Committed, commit-starts, outcome-ends, outcome-without-job}
-use Rattle.answers.proofs.OnlyCommit.{Own, only-commit-starts}
+use Rattle.answers.proofs.OnlyCommit.{only-commit-starts}
+use Rattle.answers.specs.OnlyCommit.{Own}
 use Rattle.answers.proofs.BySession.{session-codes, absent-code}
-use Rattle.answers.proofs.Faults.{frame_fault, fault-code}
+use Rattle.answers.proofs.Faults.{fault-code}
+use Rattle.answers.specs.Faults.{frame_fault}
 use Rattle.answers.proofs.ByName.{in-stat, delete-by-name, wrong-form}
 
 -- ---- messages

@@ -1,13 +1,13 @@
 -- What every command replies in a sound state: a refusal whose code is one of nine, or a success, which has fields where the command has. Assumes nothing.
-use Rattle.std.specs.Prelude.{◌≡◌, Bool, not, cond, ◌||◌, ℕ, suc, ◌+◌, ◌≤◌, eqb, leb, ltb, length, get_or}
+use Rattle.std.specs.Prelude.{◌≡◌, Bool, cond, ℕ, suc, ◌+◌, ◌≤◌, eqb, leb, ltb, length, get_or}
 use Rattle.std.proofs.Math.Path.{refl}
 use Rattle.std.proofs.Math.Bool.{true, false}
 use Rattle.std.proofs.Math.Option.{Option, none, some}
 use mathlib.Core.List.{List, [], ◌∷◌, ◌++◌}
 use Rattle.laws.specs.Bytes.{little}
 use Rattle.laws.specs.Ranges.{part}
-use Rattle.protocol.specs.Numbers.{wrong_length, invalid, unknown_command, not_found, out_of_range, too_long, no_room, busy, not_supported}
-use Rattle.protocol.specs.Numbers.{write_command, commit_command, close_command, delete_command, open_command, stat_command, write_meta_command, write_only, running, slot_size, image_size, hash_size}
+use Rattle.protocol.specs.Numbers.{invalid, not_found, out_of_range, too_long, no_room, busy}
+use Rattle.protocol.specs.Numbers.{delete_command, open_command, stat_command, write_meta_command, write_only, running, slot_size, image_size, hash_size}
 use Rattle.protocol.specs.Names.{kind_of, flash_number}
 use Rattle.protocol.proofs.NameForms.{one_of}
 use Rattle.protocol.specs.Decode.{decoded, asked, number_of, fields_at, subcommand}
@@ -38,14 +38,7 @@ use Rattle.rules.specs.Named.{delete_store, delete_blob, stat_name, stat_kind, s
 use Rattle.rules.specs.Listing.{listed, count, enumerated}
 use Rattle.rules.specs.Respond.{answered}
 use Rattle.rules.proofs.Laws.{cond_has, some-has, none_has, whether-has}
-
--- the codes of a refusal, but for that of a state that is not sound (rules 7.3 to 7.11)
-abbrev pub refusals : List ℕ
-refusals = wrong_length ∷ invalid ∷ unknown_command ∷ not_found ∷ out_of_range ∷ too_long ∷ no_room ∷ busy ∷ not_supported ∷ []
-
--- a success of this subcommand has fields (rules 1.6 and 1.7): all but Write, Commit, Close and Delete
-abbrev pub has_fields : (sub : ℕ) → Bool
-has_fields sub = not (eqb sub write_command || (eqb sub commit_command || (eqb sub close_command || eqb sub delete_command)))
+use Rattle.answers.specs.Replies.{refusals, has_fields}
 
 -- ---- what every command replies: a refusal with a known code, or a success that has fields where the command has
 abbrev pub Fine : (fields : Bool) → Reply → Type 0

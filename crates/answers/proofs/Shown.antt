@@ -1,11 +1,11 @@
 -- What Stat and SessionStat show, on the bytes of the answer: of every session, of every name without one, and of the base. Assumes nothing.
-use Rattle.std.specs.Prelude.{◌≡◌, ◌≢◌, Bool, true, false, not, cond, List, [], ◌∷◌, ℕ, ◌+◌, ◌≤◌, ◌<◌, eqb, ltb, length, get_or}
+use Rattle.std.specs.Prelude.{◌≡◌, Bool, true, false, not, cond, List, [], ◌∷◌, ℕ, ◌+◌, ◌≤◌, ◌<◌, eqb, ltb, length}
 use Rattle.std.proofs.Math.Path.{refl}
 use Rattle.std.proofs.Common.{sym, ◌∙◌, ap, subst, arith, ltb-true, ne_eqb}
 use Rattle.std.proofs.Math.Option.{Option, none, some}
 use Rattle.laws.specs.Bytes.{little, bytes_of}
 use Rattle.laws.specs.Ranges.{part}
-use Rattle.protocol.specs.Numbers.{success, slot_count, sixteen_bits, stat_command, session_stat_command, state_committed, image_blob, hash_blob}
+use Rattle.protocol.specs.Numbers.{slot_count, sixteen_bits, stat_command, session_stat_command, state_committed, image_blob, hash_blob}
 use Rattle.protocol.proofs.Sizes.{slot-size, image-size, hash-size}
 use Rattle.protocol.specs.Names.{kind_of, flash_number}
 use Rattle.protocol.specs.Decode.{decoded, number_of, values_of, fields_at}
@@ -20,7 +20,7 @@ use Rattle.state.specs.declared.Phase.{Phase}
 use Rattle.state.specs.declared.row.Place.{Place}
 use Rattle.state.specs.declared.row.Place.TheVariants.{AtSlot, AtFlash}
 use Rattle.state.specs.declared.row.Wanted.TheVariants.{OnBlob}
-use Rattle.state.specs.State.{State, Row, Slot, FlashBody, Body, place_of, in_row, in_body}
+use Rattle.state.specs.State.{State, Row, FlashBody, Body, place_of, in_row, in_body}
 use Rattle.state.specs.Words.{word_of, flags_in, status_in, clean_in, writes, status_of, ident, blob, Live}
 use Rattle.state.specs.Soundness.{slot_at, is_sound, is_verified}
 use Rattle.state.specs.Facts.{StoreFacts, FlashFacts, FlashIdle, PhaseOk, Session, Sound}
@@ -40,47 +40,7 @@ use Rattle.rules.proofs.Examples.{reply-is, reply-frame}
 use Rattle.rules.proofs.Excluded.{Bits, state-bits, flash_size, flash-length}
 use Rattle.guarantees.proofs.Keep.{alone-slot, kind-of-number, number-high}
 use Rattle.guarantees.proofs.Sessions.{asked_of}
-
--- ---- the fields of the answer, behind header and CRC (rule 15.3)
-abbrev pub state_shown : (response : List ℕ) → ℕ
-state_shown response = little 2 fields_at response
-
-abbrev pub size_shown : (response : List ℕ) → ℕ
-size_shown response = little 4 (fields_at + 2) response
-
-abbrev pub metadata_shown : (response : List ℕ) → ℕ
-metadata_shown response = get_or response (fields_at + 6) 0
-
--- accepted, with this size, no metadata and no byte more (rule 15.3)
-pub record ShowsSize (size : ℕ) (o : Effect) : Type 0 where
-  pub accepted : o.code ≡ success
-  pub size_is : size_shown o.response ≡ size
-  pub no-metadata : metadata_shown o.response ≡ 0
-  pub no_more : length o.response ≡ fields_at + 7
-
--- ---- sizes
--- the length that a store session sees: the staged one if it writes, else the committed one (rule 15.5)
-abbrev pub store_size : Row → Slot → ℕ
-store_size r b = cond (writes r) b.staged_len b.committed_len
-
--- the size of what the session of row i is on (rule 15.5)
-abbrev pub session_size : ℕ → State → ℕ
-session_size i s = cond (ltb (blob i s) slot_count) (store_size ((in_row i).get s) (slot_at (blob i s) s)) (flash_size (blob i s) s.flash_group)
-
--- ---- what is shown
--- of the session of row i: the bits of its third word, and its size (rules 15.4 and 15.5)
-pub record ShowsSession (i : ℕ) (s : State) (o : Effect) : Type 0 where
-  pub bits : Bits (flags_in (word_of ((in_row i).get s))) (status_in (word_of ((in_row i).get s))) (clean_in (word_of ((in_row i).get s))) (state_shown o.response)
-  pub size : ShowsSize (session_size i s) o
-
--- of what has no session: this state exactly, and this size
-pub record ShowsName (state size : ℕ) (o : Effect) : Type 0 where
-  pub state-is : state_shown o.response ≡ state
-  pub its-size : ShowsSize size o
-
--- no session is on the blob
-abbrev pub NoneOn : ℕ → State → Type 0
-NoneOn b s = (q : ℕ) → Live q s → blob q s ≢ b
+use Rattle.answers.specs.Shown.{state_shown, size_shown, metadata_shown, store_size, session_size, ShowsSession, ShowsName, NoneOn}
 
 -- ---- the bytes
 module _ (sub x size : ℕ) where

@@ -1,19 +1,14 @@
 -- The memory that a caller in C zeroes once, at start, is the fresh state. Assumes nothing.
-use Rattle.std.specs.Prelude.{◌≡◌, refl, true, List, ℕ, ◌*◌, replicate}
+use Rattle.std.specs.Prelude.{◌≡◌, refl, true, List, ℕ}
 use Rattle.std.proofs.Common.{sym, ◌∙◌, ap}
-use Rattle.protocol.specs.Numbers.{row_count, row_words, slot_count, name_size, slot_size, image_size, hash_size}
 use Rattle.state.specs.Words.{fresh}
 use Rattle.state.specs.Soundness.{is_sound}
 use Rattle.state.proofs.Fresh.{fresh-sound}
 use Rattle.rules.specs.Respond.{served}
-use Rattle.capi_control.specs.Words.{control_size, control_fits, control_of}
-use Rattle.capi_calls.specs.Call.{Memory, memory, state_in, memory_of, responded_with, responded}
+use Rattle.capi_control.specs.Words.{control_fits, control_of}
+use Rattle.capi_calls.specs.Call.{state_in, memory_of, responded_with, responded}
 use Rattle.capi_calls.proofs.Laws.{memory-state}
-
--- zeros in every word and byte that is lent
-abbrev pub zeroed : Memory
-zeroed = memory (replicate control_size 0) (replicate (row_count * row_words) 0) (replicate (slot_count * name_size) 0) (replicate (slot_count * slot_size) 0)
-    (replicate (slot_count * slot_size) 0) (replicate image_size 0) (replicate hash_size 0)
+use Rattle.capi_calls.specs.Zeros.{zeroed}
 
 -- THEOREM: its words are a control block; its state is the fresh one, which is sound and has this memory (rule 5.11)
 pub zeros-fit : control_fits zeroed.control ≡ true

@@ -2,7 +2,7 @@
 -- Assumes nothing.
 use Rattle.std.specs.Prelude.{◌≡◌, refl, List, [], ◌∷◌, ℕ}
 use Rattle.crc.specs.Crc.{shift, shifts, byte_step, crc_from, crc}
-use Rattle.crc.proofs.Rental.{bit_in, byte_in, rental_crc}
+use Rattle.crc.specs.Rental.{bit_in, byte_in, rental_crc}
 
 -- the digits 1 to 9, as characters (rule 2.5)
 abbrev pub nine_digits : List ℕ

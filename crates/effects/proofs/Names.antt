@@ -1,13 +1,12 @@
 -- The listed names in their order, and which letters and lengths names have: tables of their own. Assumes nothing.
-use Rattle.std.specs.Prelude.{◌≡◌, refl, Bool, true, false, cond, List, [], ◌∷◌, ◌++◌, ℕ, ◌<◌, ltb, length, get_or, replicate}
+use Rattle.std.specs.Prelude.{◌≡◌, refl, Bool, true, false, cond, List, [], ◌∷◌, ◌++◌, ℕ, ◌<◌, length, get_or, replicate}
 use Rattle.std.proofs.Common.{sym, ◌∙◌, ap, subst, lt-ltb}
 use Rattle.laws.specs.All.{all}
 use Rattle.laws.specs.Bytes.{same, first_zero}
 use Rattle.protocol.specs.Numbers.{slot_count, enumerate_command, out_of_range}
-use Rattle.protocol.specs.Names.{base, flash_name, alnum, store_name, name_form}
+use Rattle.protocol.specs.Names.{base, alnum, store_name, name_form}
 use Rattle.protocol.specs.Decode.{number_of, decoded}
 use Rattle.protocol.specs.Frame.{framed, refused, reply}
-use Rattle.protocol.specs.declared.FlashKind.TheVariants.{Image, Hash, Verify, Update, Cleanup}
 use Rattle.protocol.specs.declared.Request.{Request}
 use Rattle.protocol.specs.declared.Request.TheVariants.{Enumerate}
 use Rattle.state.specs.declared.Phase.{Phase}
@@ -19,23 +18,13 @@ use Rattle.rules.specs.Listing.{committed_names, flash_names, listed, count}
 use Rattle.rules.proofs.Messages.{sent}
 use Rattle.rules.specs.Respond.{Effect, answered, respond}
 use Rattle.rules.proofs.Laws.{respond-is}
-
--- ---- the listed names
--- the flash names that there are in each phase, in their order (rules 8.1 and 8.2)
-abbrev pub flash_in : Phase → List (List ℕ)
-flash_in Idle = flash_name Image ∷ flash_name Hash ∷ flash_name Cleanup ∷ []
-flash_in Uploading = flash_name Image ∷ flash_name Hash ∷ flash_name Verify ∷ flash_name Cleanup ∷ []
-flash_in Verified = flash_name Image ∷ flash_name Hash ∷ flash_name Verify ∷ flash_name Update ∷ flash_name Cleanup ∷ []
+use Rattle.effects.specs.Names.{flash_in, names}
 
 flash-in : (p : Phase) → flash_names p ≡ flash_in p
 unfolding flash_names flash_listed
 flash-in Idle = refl
 flash-in Uploading = refl
 flash-in Verified = refl
-
--- the base, the committed slots, the flash names of the phase (rule 8.1)
-abbrev pub names : State → List (List ℕ)
-names s = base ∷ (committed_names slot_count s ++ flash_in s.flash_group.phase)
 
 names-are : (s : State) → listed s ≡ names s
 unfolding listed

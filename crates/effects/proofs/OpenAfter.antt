@@ -1,5 +1,5 @@
 -- What an accepted Open gives and leaves: the identifier, the next one, and of a held name that is opened for writing the staged bytes and the clean mark. Assumes nothing.
-use Rattle.std.specs.Prelude.{◌≡◌, refl, ◌≢◌, Bool, true, false, cond, ◌&&◌, List, ℕ, zero, suc, ◌<◌}
+use Rattle.std.specs.Prelude.{◌≡◌, refl, ◌≢◌, true, List, ℕ, ◌<◌}
 use Rattle.std.proofs.Common.{sym, ◌∙◌, ap, subst, arith}
 use Rattle.std.proofs.Math.Option.{some}
 use Rattle.laws.specs.Bytes.{bytes_of}
@@ -12,17 +12,16 @@ use Rattle.protocol.specs.declared.Blob.TheVariants.{Store, Flash, Base, Unknown
 use Rattle.protocol.specs.declared.Request.TheVariants.{Open}
 use Rattle.state.specs.declared.row.Place.{Place}
 use Rattle.state.specs.declared.row.Place.TheVariants.{AtSlot, AtFlash}
-use Rattle.state.specs.State.{State, Row, Slot, Body, place_of, in_row, cell}
-use Rattle.state.specs.Parts.{FitsSlot, cell-get-put, body-view-fits}
-use Rattle.state.specs.Words.{clean_of, blob_of, blob, in_use, Live}
+use Rattle.state.specs.State.{State, Row, Slot, Body, in_row, cell}
+use Rattle.state.specs.Parts.{FitsSlot, body-view-fits}
+use Rattle.state.proofs.Parts.{cell-get-put}
+use Rattle.state.specs.Words.{clean_of, blob_of}
 use Rattle.state.specs.Soundness.{slot_at, is_sound}
 use Rattle.state.specs.Facts.{Sound}
 use Rattle.state.specs.Agree.{sound-of-test}
-use Rattle.rules.specs.Command.{Command, close}
-use Rattle.rules.specs.Session.{on_place, on_row}
 use Rattle.rules.specs.Lookup.{slot_named, after, fresh_from, fresh_id}
 use Rattle.rules.specs.Searches.{free-row, named-slot}
-use Rattle.rules.specs.Sweep.{stale, sweep_row, sweep_rows, swept, noted, due}
+use Rattle.rules.specs.Sweep.{swept}
 use Rattle.rules.specs.Open.{open_blob}
 use Rattle.rules.specs.Opening.{opened, new_row, held_slot, new_slot, opened_flash}
 use Rattle.rules.proofs.OpenLaws.{open-store-has, open-flash-has}
@@ -30,33 +29,8 @@ use Rattle.rules.proofs.Messages.{sent}
 use Rattle.rules.specs.Respond.{Effect, effect_of, respond}
 use Rattle.guarantees.proofs.Keep.{swept-sound}
 use Rattle.guarantees.proofs.After.{open_is}
-
--- ---- the sweep and the next identifier
-place-next : (p : Place) (r t : ℕ) (c : Command) (s : State) → (on_place p r t c s).1.next ≡ s.next
-place-next (AtSlot k) r t c s = refl
-place-next AtFlash r t c s = refl
-
-row_next : (t r : ℕ) (s : State) → (sweep_row t r s).next ≡ s.next
-unfolding sweep_row
-row_next t r s = go (in_use r s && stale t ((in_row r).get s))
-  where
-    go : (y : Bool) → (cond y (on_row r t close s).1 s).next ≡ s.next
-    go true = place-next (place_of (blob r s)) r t close s
-    go false = refl
-
-rows_next : (t n : ℕ) (s : State) → (sweep_rows t n s).next ≡ s.next
-unfolding sweep_rows
-rows_next t zero s = refl
-rows_next t (suc n) s = row_next t n (sweep_rows t n s) ∙ rows_next t n s
-
--- A SWEEP LEAVES THE NEXT IDENTIFIER
-pub sweep-next : (t : ℕ) (s : State) → (swept t s).next ≡ s.next
-unfolding swept
-sweep-next t s = go (due t s)
-  where
-    go : (y : Bool) → (cond y (noted t (sweep_rows t row_count s)) s).next ≡ s.next
-    go true = rows_next t row_count s
-    go false = refl
+use Rattle.effects.specs.OpenAfter.{Staged}
+use Rattle.effects.proofs.SweepNext.{sweep-next}
 
 -- ---- the identifier
 -- the first unused one from "next" on, among the sessions that the sweep left (rule 9.8)
@@ -100,16 +74,6 @@ module _ (t flags : ℕ) (b : Blob) (m : List ℕ) (s : State) (h : is_sound s �
     ap (λ (o : Effect). o.response) is_open ∙ g.0 ∙ ap (λ (n : ℕ). sent open_command (bytes_of 2 n)) given_is,
     ap (λ (o : Effect). o.state.next) is_open ∙ g.1 ∙ ap after given_is,
   )
-
--- ---- a held name opened for writing
--- what is committed in slot k of x is staged in it in y, and the session on it is clean (rule 9.11)
-pub record Staged (k : ℕ) (x y : State) : Type 0 where
-  pub bytes : (slot_at k y).staged_bytes ≡ (slot_at k x).committed_bytes
-  pub as_long : (slot_at k y).staged_len ≡ (slot_at k x).committed_len
-  pub row : ℕ
-  pub is_live : Live row y
-  pub on-it : blob row y ≡ k
-  pub is-clean : clean_of ((in_row row).get y) ≡ 1
 
 opened-stages : (r k t : ℕ) (x : State) → Sound x → (r < row_count) × (((in_row r).get x).used ≡ 0) → k < slot_count → Staged k x (opened (AtSlot k) r k read_write 1 t (held_slot read_write (slot_at k x)) x).1
 unfolding opened

@@ -1,9 +1,9 @@
 -- What a Write, a Commit and a Close of a writing store session leave of its slot, and of its clean mark, on every message. Assumes nothing.
-use Rattle.std.specs.Prelude.{◌≡◌, Bool, ℕ, ◌+◌, ◌≤◌, ◌<◌, max, eqb, length, take, drop}
+use Rattle.std.specs.Prelude.{◌≡◌, Bool, ℕ, ◌+◌, ◌≤◌, ◌<◌, eqb, length, drop}
 use Rattle.std.proofs.Math.Path.{refl, ap, subst}
 use Rattle.std.proofs.Common.{sym, ◌∙◌, arith}
 use Rattle.std.proofs.Math.Bool.{true, false}
-use mathlib.Core.List.{List, [], ◌∷◌, ◌++◌}
+use mathlib.Core.List.{List, [], ◌∷◌}
 use Rattle.std.proofs.Math.ListN.{replicate}
 use Rattle.std.proofs.Math.Seq.{sets-eq}
 use Rattle.protocol.specs.Numbers.{slot_count, slot_size, row_words}
@@ -27,14 +27,7 @@ use Rattle.rules.specs.Respond.{Effect, answered, respond}
 use Rattle.rules.proofs.Effects.{write-accepted, commit-cleans as committed-clean}
 use Rattle.rules.proofs.Laws.{respond-is}
 use Rattle.guarantees.proofs.After.{own-part}
-
--- what a Write of ws at the offset leaves: of the region only the addressed bytes change (rule 11.3), the length is the greater of itself and the end (rule 11.4), and
--- what is committed stays
-pub record Written (offset : ℕ) (ws : List ℕ) (b d : Slot) : Type 0 where
-  pub region : d.staged_bytes ≡ take offset b.staged_bytes ++ ws ++ drop (offset + length ws) b.staged_bytes
-  pub as_long : d.staged_len ≡ max b.staged_len (offset + length ws)
-  pub committed-kept : (d.committed_bytes ≡ b.committed_bytes) × (d.committed_len ≡ b.committed_len) × (d.mark ≡ b.mark)
-  pub name-kept : (d.name ≡ b.name) × (d.held ≡ b.held)
+use Rattle.effects.specs.StoreAfter.{Written}
 
 module _ (t i : ℕ) (m : List ℕ) (s : State) (h : is_sound s ≡ true) (l : Live i s) (low : blob i s < slot_count) where
   abbrev row : Row

@@ -1,0 +1,4 @@
+pub mod FlashAfter
+pub mod Names
+pub mod OpenAfter
+pub mod StoreAfter

@@ -12,7 +12,8 @@ use Rattle.protocol.specs.declared.Request.TheVariants.{Open}
 use Rattle.state.specs.declared.row.Place.{Place}
 use Rattle.state.specs.declared.row.Place.TheVariants.{AtSlot}
 use Rattle.state.specs.State.{State, Slot, place_of, in_row, in_body, cell}
-use Rattle.state.specs.Parts.{Separate, cell-get-put, cell-body-other, row-view-fits, body-view-fits}
+use Rattle.state.specs.Parts.{Separate, row-view-fits, body-view-fits}
+use Rattle.state.proofs.Parts.{cell-get-put, cell-body-other}
 use Rattle.state.specs.Words.{blob, Live}
 use Rattle.state.specs.Soundness.{slot_at, is_sound}
 use Rattle.state.specs.Facts.{Session, Sound}

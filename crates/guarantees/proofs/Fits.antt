@@ -40,12 +40,7 @@ use Rattle.rules.specs.Lookup.{slot_named}
 use Rattle.rules.specs.Opening.{opened, flash_listed, held_slot, new_slot, opened_flash}
 use Rattle.rules.specs.Named.{delete_blob, stat_kind, stat_blob, delete_store, stat_name}
 use Rattle.rules.proofs.OpenLaws.{open-store-has, open-flash-has}
-
--- the fields of a reply are at most as long as Read's
-abbrev pub Short : Reply → Type 0
-Short (refused code) = Unit {0}
-Short done = Unit {0}
-Short (reply f) = length f ≤ read_most
+use Rattle.guarantees.specs.Fits.{Short}
 
 -- a number sent in n bytes has n of them
 pub bytes-long : (n x : ℕ) → length (bytes_of n x) ≡ n

@@ -28,8 +28,9 @@ use Rattle.rules.specs.Sweep.{swept}
 use Rattle.rules.specs.Open.{open_flash, open_blob}
 use Rattle.rules.specs.Respond.{answered}
 use Rattle.rules.proofs.Messages.{ask_open, ask_commit, ask_close, commit-decoded, close-decoded}
-use Rattle.guarantees.proofs.Merging.{Event, message, job_ended, step}
-use Rattle.guarantees.proofs.FlashPromise.{run, job_state, starts_update, run_sound}
+use Rattle.guarantees.specs.Merging.{Event, message, job_ended, step}
+use Rattle.guarantees.proofs.FlashPromise.{run_sound}
+use Rattle.guarantees.specs.FlashPromise.{run, job_state, starts_update}
 use Rattle.guarantees.proofs.Steps.{codes, Goes, by-message, by-outcome, ends, on, then}
 use Rattle.rules.specs.Lookup.{free_row_in, fresh_from}
 use Rattle.rules.specs.Opening.{opened, flash_listed, opened_flash}

@@ -22,6 +22,7 @@ use Rattle.rules.specs.Command.{Command, read, write, commit, stat, close, write
 use Rattle.rules.specs.Flash.{with_phase, with_image, with_hash, write_flash, startable, verify_job, update_job, commit_kind, commit_flash, closed_flash, close_flash, verdict, job_ends, on_flash}
 use Rattle.rules.proofs.Laws.{cond_has, placed-has}
 use Rattle.rules.proofs.Change.{Proper}
+use Rattle.guarantees.proofs.AfterJob.{after-job}
 
 -- the phases differ
 pub uploading-not-idle : Uploading ≢ Idle
@@ -203,13 +204,6 @@ module _ (r : Row) (b : FlashBody) (fr : FitsRow r) (fi : length b.image ≡ ima
   on-close true = same
   on-close false = let e = ends-kind kind (status_of r) in ended (closed_flash kind (status_of r) b) e.0 e.1
 
-  after-job : (k : FlashKind) (g : Bool) → status_of r ≡ running → PhaseOk k (status_of r) b.phase → PhaseOk k (verdict g) b.phase
-  after-job Image g st ph = absurd (let z : status_of r ≡ 0 = ph.0 in omega arith)
-  after-job Hash g st ph = absurd (let z : status_of r ≡ 0 = ph.0 in omega arith)
-  after-job Verify g st ph = (ph.0, λ (h : verdict g ≢ 0). ph.1 (omega arith))
-  after-job Update g st ph = ph
-  after-job Cleanup g st ph = absurd (let z : status_of r % 2 ≡ 0 = ph.0 in omega arith)
-
   verdict-small : (g : Bool) → verdict g < 4
   verdict-small true = omega arith
   verdict-small false = omega arith
@@ -218,7 +212,7 @@ module _ (r : Row) (b : FlashBody) (fr : FitsRow r) (fi : length b.image ≡ ima
   unfolding job_ends
   on-job true g q =
       going (with_status (verdict g) r) b (set-four (verdict g)) on (fi, fh) (at_set (verdict g) 0 (omega arith)) (at_set (verdict g) 1 (omega arith))
-      (set-facts (verdict g) b (verdict-small g) (after-job kind g (eqb-true (status_of r) 1 q) ses.phased) ses.lengths)
+      (set-facts (verdict g) b (verdict-small g) (after-job r b kind g (eqb-true (status_of r) 1 q) ses.phased) ses.lengths)
   on-job false g q = same
 
   -- every command

@@ -2,7 +2,7 @@
 -- was verified since it was last opened. Assumes nothing.
 use Rattle.std.proofs.Math.Path.{◌≡◌, refl, sym, ap}
 use Rattle.std.proofs.Common.{◌∙◌, subst, true≢false}
-use Rattle.std.specs.Prelude.{◌≢◌, Bool, not, cond, ◌&&◌, ◌||◌, List, [], ◌∷◌, ◌++◌, ℕ, zero, suc, ◌+◌, ◌≤◌, ◌<◌, drop}
+use Rattle.std.specs.Prelude.{◌≢◌, Bool, not, cond, ◌&&◌, ◌||◌, List, [], ◌∷◌, ℕ, zero, suc, ◌+◌, ◌≤◌, ◌<◌, drop}
 use Rattle.std.proofs.Math.Logic.{Ne-symm}
 use Rattle.std.proofs.Math.Bool.{true, false}
 use Rattle.std.proofs.Math.Option.{Option, none, some}
@@ -30,7 +30,8 @@ use Rattle.state.specs.declared.Phase.TheVariants.{Uploading, Verified}
 use Rattle.state.specs.declared.row.Place.{Place}
 use Rattle.state.specs.declared.row.Place.TheVariants.{AtSlot, AtFlash}
 use Rattle.state.specs.State.{State, Row, Slot, FlashBody, Body, place_of, in_row, in_body, cell}
-use Rattle.state.specs.Parts.{cell-row-other, row_put, row-view-fits}
+use Rattle.state.specs.Parts.{row-view-fits}
+use Rattle.state.proofs.Parts.{cell-row-other, row_put}
 use Rattle.state.specs.Words.{blob_of, status_of, stamped, with_status, empty_flash, blob, in_use, Live, fresh, status-with, free_slot, store_flags, flash_flags, store-flags}
 use Rattle.state.specs.Soundness.{is_sound, slot_at}
 use Rattle.state.specs.Facts.{FlashSession, PhaseOk, Session, Sound}
@@ -43,85 +44,18 @@ use Rattle.state.specs.declared.row.Wanted.TheVariants.{Id, OnBlob, OnFlash}
 use Rattle.rules.specs.Session.{on_part, on_place, on_row, on_found, on_session, row_found}
 use Rattle.rules.specs.Sweep.{stale, sweep_row, sweep_rows, noted, due, swept}
 use Rattle.rules.specs.Open.{open_store, open_flash, open_blob}
-use Rattle.rules.specs.Respond.{Effect, answered, respond}
+use Rattle.rules.specs.Respond.{Effect, answered}
 use Rattle.rules.proofs.Laws.{respond-is, job_is, cond_has, placed-has, some-has, none_has, stamped-status, status-set}
 use Rattle.rules.proofs.Change.{Proper, row_new, row_old, Was, was}
-use Rattle.guarantees.proofs.Merging.{Event, message, job_ended, effect_on, proper-row}
+use Rattle.guarantees.proofs.Merging.{proper-row}
+use Rattle.guarantees.specs.Merging.{Event, message, job_ended}
 use Rattle.guarantees.proofs.Keep.{swept-sound, sweep-rows-sound, respond-sound, job-sound}
 use Rattle.rules.specs.Searches.{free-row, no-flash-row, found-live, on_row_lem, row_on}
 use Rattle.rules.specs.Lookup.{slot_named, free_row_in, fresh_id}
 use Rattle.rules.specs.Opening.{new_row, opened, new_slot, held_slot, flash_listed, opened_flash}
 use Rattle.rules.specs.Named.{delete_blob, delete_store}
 use Rattle.rules.proofs.OpenLaws.{open-store-has, open-flash-has}
-
--- ---- histories
--- the state after an event, and after a history
-abbrev pub next : State → Event → State
-next s e = (effect_on e s).state
-
--- the state after a history
-abbrev pub run : State → List Event → State
-run s [] = s
-run s (e ∷ es) = run (next s e) es
-
--- the job status of a session on a flash name, 0 without one
-abbrev status_at : Option ℕ → State → ℕ
-status_at none s = 0
-status_at (some r) s = status_of ((in_row r).get s)
-
--- a session is open on the flash name
-unfoldable pub is_open : FlashKind → State → Bool
-is_open k s = is_some (row_found (OnBlob (flash_number k)) s)
-
--- the job status of that session
-unfoldable pub job_state : FlashKind → State → ℕ
-job_state k s = status_at (row_found (OnBlob (flash_number k)) s) s
-
--- the event opens the image: an Open of it that succeeds
-abbrev pub asks_image : Request → Bool
-asks_image Count = false
-asks_image (Enumerate i) = false
-asks_image (Open f (Store at len)) = false
-asks_image (Open f (Flash Image)) = true
-asks_image (Open f (Flash Hash)) = false
-asks_image (Open f (Flash Verify)) = false
-asks_image (Open f (Flash Update)) = false
-asks_image (Open f (Flash Cleanup)) = false
-asks_image (Open f Base) = false
-asks_image (Open f Unknown) = false
-asks_image (Read s o n) = false
-asks_image (Write s o n) = false
-asks_image (Commit s o n) = false
-asks_image (Close s) = false
-asks_image (Delete b) = false
-asks_image (Stat b) = false
-asks_image (SessionStat s) = false
-asks_image (WriteMeta s) = false
-asks_image (Refused c) = false
-
--- it asks for it, and is answered 00
-abbrev pub opens_image : State → Event → Bool
-opens_image s (message t m) = asks_image (decoded m) && eqb (respond t m s).code success
-opens_image s (job_ended good) = false
-
--- the event verifies the image: a good outcome while a verify job runs
-abbrev pub verifies_image : State → Event → Bool
-verifies_image s (message t m) = false
-verifies_image s (job_ended true) = eqb (job_state Verify s) running
-verifies_image s (job_ended false) = false
-
--- the event starts an update job: it runs after the event, and did not before
-abbrev pub starts_update : State → Event → Bool
-starts_update s e = not (eqb (job_state Update s) running) && eqb (job_state Update (next s e)) running
-
--- whether the image was verified since it was last opened, carried along a history: opened, no; verified, yes; else as before
-abbrev pub watch : Bool → State → Event → Bool
-watch v s e = cond (opens_image s e) false (cond (verifies_image s e) true v)
-
--- along the whole history
-abbrev pub verified_since : Bool → State → List Event → Bool
-verified_since v s [] = v
-verified_since v s (e ∷ es) = verified_since (watch v s e) (next s e) es
+use Rattle.guarantees.specs.FlashPromise.{next, run, status_at, is_open, job_state, asks_image, opens_image, verifies_image, starts_update, watch, verified_since, NeverOpens, VerifiedIn}
 
 -- ---- kinds
 kind-if : (a b c d f : Bool) → cond a Image (cond b Hash (cond c Verify (cond d Update (cond f Cleanup no_kind)))) ≡ Verify → c ≡ true
@@ -726,21 +660,6 @@ never-together es =
     let s = run fresh es in
     let h : is_sound s ≡ true = run_sound es fresh fresh-sound in
     both-not (is_open Image s) (is_open Hash s) (is_open Verify s) (not-together Image Verify s h (omega arith) (omega arith) (omega arith)) (not-together Hash Verify s h (omega arith) (omega arith) (omega arith))
-
--- ---- the same, by a place in the history
--- no event of the history opens the image
-abbrev pub NeverOpens : State → List Event → Type 0
-NeverOpens s [] = Unit {0}
-NeverOpens s (e ∷ es) = (opens_image s e ≡ false) × NeverOpens (next s e) es
-
--- the history has an event that verifies the image, and none after it opens the image
-pub record VerifiedIn (s : State) (es : List Event) : Type 0 where
-  pub earlier : List Event
-  pub event : Event
-  pub later : List Event
-  pub is-history : es ≡ earlier ++ (event ∷ later)
-  pub verifies : verifies_image (run s earlier) event ≡ true
-  pub not_opened : NeverOpens (next (run s earlier) event) later
 
 watched : (es : List Event) (v : Bool) (s : State) → verified_since v s es ≡ true → Or ((v ≡ true) × NeverOpens s es) (VerifiedIn s es)
 watched [] v s h = this (h, tt)

@@ -1,13 +1,12 @@
 -- Every command keeps a state sound: sessions' commands, the sweep, Open and Delete. Assumes nothing.
-use Rattle.std.specs.Prelude.{◌≡◌, refl, ◌≢◌, ◌⊎◌, Bool, true, false, cond, ◌&&◌, List, ℕ, zero, suc, ◌≤◌, ◌<◌, ltb, length}
-use Rattle.std.proofs.Common.{sym, ◌∙◌, ap, subst, inl, inr, arith, ltb-false, eqb-true}
+use Rattle.std.specs.Prelude.{◌≡◌, refl, ◌≢◌, Bool, true, false, cond, ◌&&◌, List, ℕ, zero, suc, ◌≤◌, ◌<◌, ltb, length}
+use Rattle.std.proofs.Common.{sym, ◌∙◌, ap, subst, arith, ltb-false, eqb-true}
 use Rattle.std.proofs.Math.Option.{Option, none, some}
 use Rattle.std.proofs.lemmas.Bool.{not-true}
 use Rattle.std.proofs.lemmas.List.{length-replicate}
 use Rattle.laws.specs.All.{and-true, Or, this, that}
-use Rattle.laws.specs.Bytes.{padded-length}
 use Rattle.laws.specs.Ranges.{part}
-use Rattle.protocol.specs.Numbers.{not_found, word_limit, cleanup_blob, row_count, slot_count, name_size, slot_size, image_size, hash_size, sixteen_bits, read_only, read_write, write_only, busy}
+use Rattle.protocol.specs.Numbers.{not_found, word_limit, cleanup_blob, row_count, slot_count, slot_size, image_size, hash_size, sixteen_bits, read_only, read_write, write_only, busy}
 use Rattle.protocol.specs.Names.{store_name, store_field, kind_of, flash_number}
 use Rattle.protocol.specs.Decode.{decoded}
 use Rattle.protocol.specs.Frame.{refused, done, Reply}
@@ -20,13 +19,14 @@ use Rattle.protocol.specs.declared.Request.TheVariants.{Count, Enumerate, Open, 
 use Rattle.state.specs.declared.Phase.TheVariants.{Idle, Uploading}
 use Rattle.state.specs.declared.row.Place.{Place}
 use Rattle.state.specs.declared.row.Place.TheVariants.{AtSlot, AtFlash}
-use Rattle.state.specs.State.{State, Slot, FlashBody, Body, place_of, in_row, in_body, cell}
-use Rattle.state.specs.Parts.{Separate, FitsSlot, FitsBody, body-shape, body-get-put, row-body, body-indep, body-view-fits}
-use Rattle.state.specs.Words.{word_of, ident, blob, in_use, Live, free_slot, word_with, flags_in, status_in, clean_in, writing_in, store_flags, writes_with, write_bit, store-flags, store-reads, store_writes}
+use Rattle.state.specs.State.{State, Slot, FlashBody, place_of, in_row, in_body}
+use Rattle.state.specs.Parts.{Separate, FitsSlot, body-view-fits}
+use Rattle.state.proofs.Parts.{body-shape, body-get-put, row-body, body-indep}
+use Rattle.state.specs.Words.{blob, in_use, Live, free_slot, word_with, flags_in, status_in, clean_in, writing_in, store_flags, writes_with, write_bit, store-flags, store-reads, store_writes}
 use Rattle.state.specs.Soundness.{slot_at, is_sound}
-use Rattle.state.specs.Facts.{StoreFacts, StoreIdle, FlashIdle, PhaseOk, Session, Sound}
+use Rattle.state.specs.Facts.{StoreFacts, StoreIdle, FlashIdle, PhaseOk, Sound}
 use Rattle.state.proofs.Fresh.{free-idle}
-use Rattle.state.specs.Agree.{sound-of-test, test-of-sound, place-slot, place-flash, place-cases, blobs-apart, not-idle-is, verified-is, back-flash}
+use Rattle.state.specs.Agree.{sound-of-test, test-of-sound, place-slot, place-flash, blobs-apart, not-idle-is, verified-is, back-flash}
 use Rattle.rules.specs.Store.{with_staged}
 use Rattle.rules.specs.Command.{Command, close, end_job}
 use Rattle.state.specs.declared.row.Wanted.{Wanted}
@@ -36,18 +36,18 @@ use Rattle.rules.specs.Sweep.{stale, sweep_row, sweep_rows, noted, due, swept}
 use Rattle.rules.specs.Open.{open_store, open_flash, open_blob}
 use Rattle.rules.specs.Respond.{Effect, answered, respond, job_outcome}
 use Rattle.rules.proofs.Laws.{respond-is, job_is, some-has, none_has}
-use Rattle.rules.proofs.Change.{change-sound, NewName, added-sound, values-sound}
+use Rattle.rules.proofs.Change.{change-sound, values-sound}
 use Rattle.guarantees.proofs.Merging.{on-row-sound}
 use Rattle.guarantees.proofs.StorePart.{freed-fits}
 use Rattle.guarantees.proofs.FlashPart.{uploading-not-idle}
-use Rattle.rules.proofs.Identifiers.{after_small, fresh-small, fresh-unused}
-use Rattle.protocol.specs.Inside.{BlobInside, Inside, decoded-inside}
-use Rattle.protocol.proofs.Naming.{field-of-name}
-use Rattle.rules.specs.Searches.{free-row, free-slot, named-slot, no_name, no-row-on, no-flash-row, found-live}
-use Rattle.rules.specs.Lookup.{slot_named, free_row_in, free_slot_in, after, fresh_id}
-use Rattle.rules.specs.Opening.{new_row, opened, new_slot, held_slot, flash_listed, opened_flash}
+use Rattle.protocol.specs.Inside.{BlobInside, Inside}
+use Rattle.protocol.proofs.Inside.{decoded-inside}
+use Rattle.rules.specs.Searches.{free-row, free-slot, named-slot, no-row-on, no-flash-row, found-live}
+use Rattle.rules.specs.Lookup.{slot_named, free_row_in, free_slot_in, fresh_id}
+use Rattle.rules.specs.Opening.{opened, new_slot, held_slot, flash_listed, opened_flash}
 use Rattle.rules.specs.Named.{delete_blob, delete_store}
 use Rattle.rules.proofs.OpenLaws.{open-store-has, open-flash-has}
+use Rattle.guarantees.proofs.KeepNew.{opened-sound, new-sound}
 
 -- ---- a session's command
 pub session-sound : (a : Wanted) (t : ℕ) (c : Command) (s : State) → Sound s → Sound (on_session a t c s).1
@@ -84,17 +84,6 @@ swept-sound t s g = go (due t s)
         values-sound (sweep_rows t row_count s).next t (sweep_rows t row_count s) h.shape.next_small h
     go false = g
 
--- ---- a new session at a place that has none, on a free row
-pub opened-sound : (s : State) (g : Sound s) (r : ℕ) (low : r < row_count) (free : ((in_row r).get s).used ≡ 0) (p : Place) (b flags clean t : ℕ) (body : Body p)
-    (at : place_of b ≡ p) (alone : (q : ℕ) → Live q s → Separate (place_of (blob q s)) p) (fits : FitsBody p body)
-    (ses : fresh_id s < sixteen_bits → Session p (new_row (fresh_id s) b flags clean t) body) (named : NewName s p body) → Sound (opened p r b flags clean t body s).1
-unfolding opened
-opened-sound s g r low free p b flags clean t body at alone fits ses named =
-    let small : fresh_id s < sixteen_bits = fresh-small s row_count s.next g.shape.next_small in
-    let row = new_row (fresh_id s) b flags clean t in
-    values-sound (after (fresh_id s)) ((cell r p).put (row, body) s).last_sweep ((cell r p).put (row, body) s) (after_small (fresh_id s) small)
-    (added-sound s g r low free p row body refl refl at alone fits (ses small) (λ (q : ℕ) (l : Live q s). fresh-unused s g.shape.next_small q l) named)
-
 -- ---- places without a session
 -- a slot that no session is on is apart from every session's place
 pub alone-slot : (k : ℕ) (s : State) → k < slot_count → ((q : ℕ) → Live q s → blob q s ≢ k) → (q : ℕ) → Live q s → Separate (place_of (blob q s)) (AtSlot k)
@@ -106,40 +95,6 @@ alone-flash s f q l = go (ltb (blob q s) slot_count) refl
     go : (y : Bool) → ltb (blob q s) slot_count ≡ y → Separate (cond y (AtSlot (blob q s)) AtFlash) AtFlash
     go true e = tt
     go false e = f q l (ltb-false _ _ e)
-
--- a slot that is not used has no session
-unused-alone : (k : ℕ) (s : State) → Sound s → k < slot_count → (slot_at k s).held ≡ 0 → (q : ℕ) → Live q s → Separate (place_of (blob q s)) (AtSlot k)
-unused-alone k s g h z q l = go (place-cases (place_of (blob q s)) (AtSlot k))
-  where
-    go : (place_of (blob q s) ≡ AtSlot k) ⊎ Separate (place_of (blob q s)) (AtSlot k) → Separate (place_of (blob q s)) (AtSlot k)
-    go (inl e) = absurd (
-        let f : StoreFacts k (ident q s) (blob q s) (word_of ((in_row q).get s)) (slot_at k s) = subst (λ (w : Place). Session w ((in_row q).get s) ((in_body w).get s)) e (g.session q l) in
-        let u = f.is_held in omega arith)
-    go (inr m) = m
-
--- ---- Open, of a store name
-new-sound : (n : List ℕ) (t r k : ℕ) (s : State) → Sound s → store_name n ≡ true → slot_named n s ≡ none → (r < row_count) × (((in_row r).get s).used ≡ 0) → (k < slot_count) × ((slot_at k s).held ≡ 0)
-    → Sound (opened (AtSlot k) r k read_write 0 t (new_slot n) s).1
-new-sound n t r k s g nm none-held fr fs =
-    opened-sound s g r fr.0 fr.1 (AtSlot k) k read_write 0 t (new_slot n) (place-slot k fs.0) (unused-alone k s g fs.0 fs.1)
-    (fs.0, record { name-long = padded-length name_size n; committed-long = length-replicate slot_size 0; staged-long = length-replicate slot_size 0; held-flag = omega arith; mark-flag = omega arith })
-    (λ (sm : fresh_id s < sixteen_bits). record {
-      id-small = sm;
-      on-slot = refl;
-      flags = store_writes;
-      no-status = refl;
-      rest-zero = omega arith;
-      is_held = refl;
-      mark-bit = omega arith;
-      committed-fits = omega arith;
-      staged-fits = omega arith;
-      clean-marked = omega arith;
-      reader-clean = omega arith;
-      unmarked = λ (z : ◌≡◌ {A = ℕ} 0 0). refl;
-      unstaged = λ (z : ◌≡◌ {A = ℕ} 1 0). absurd (omega arith);
-      name-good = field-of-name n nm;
-    })
-    (λ (l : ℕ) (h : l < slot_count) (m : k ≢ l) (u : (slot_at l s).held ≡ 1). no_name n s none-held l h u)
 
 held-sound : (flags t r k : ℕ) (s : State) → Sound s → Or (flags ≡ read_only) (flags ≡ read_write) → (r < row_count) × (((in_row r).get s).used ≡ 0) → (k < slot_count) × ((slot_at k s).held ≡ 1)
     → row_found (OnBlob k) s ≡ none → Sound (opened (AtSlot k) r k flags 1 t (held_slot flags (slot_at k s)) s).1

@@ -11,3 +11,6 @@ pub mod After
 pub mod Answer
 pub mod Premises
 pub mod FlashHistory
+pub mod PremisesAre
+pub mod KeepNew
+pub mod AfterJob

@@ -1,10 +1,10 @@
 -- The premises of demand 3 are met: two sound states with two sessions each, on two store names and on a store name and the flash, and for each session a list, with
 -- the code of each of its events. A store session's messages are all accepted; the flash session's list has job outcomes, refusals, and a message after its Close. Assumes nothing.
-use Rattle.std.specs.Prelude.{◌≡◌, refl, ◌≢◌, true, false, List, [], ◌∷◌, ◌++◌, ℕ, ◌≤◌}
+use Rattle.std.specs.Prelude.{◌≡◌, refl, ◌≢◌, true, false, List, [], ◌∷◌, ℕ, ◌≤◌}
 use Rattle.std.proofs.Common.{sym, ◌∙◌, ap, subst, arith}
 use Rattle.laws.specs.All.{that}
 use Rattle.laws.specs.Find.{first}
-use Rattle.laws.specs.Merge.{Same, Merge, All, tag, alone}
+use Rattle.laws.specs.Merge.{Merge, All, alone}
 use Rattle.protocol.proofs.Sizes.{slot-size}
 use Rattle.protocol.specs.Numbers.{success, busy, not_supported, not_found, running, succeeded, slot_size, verify_blob}
 use Rattle.protocol.specs.Names.{kind_of}
@@ -18,7 +18,7 @@ use Rattle.state.specs.declared.row.Place.TheVariants.{AtFlash}
 use Rattle.state.specs.declared.row.Wanted.TheVariants.{OnFlash}
 use Rattle.state.specs.State.{State, Row, Slot, in_row, cell}
 use Rattle.state.specs.Words.{id_of, blob_of, status_of, writes, ident, blob, Live, free_row, fresh}
-use Rattle.state.specs.Soundness.{slot_at, is_sound}
+use Rattle.state.specs.Soundness.{slot_at}
 use Rattle.state.specs.Facts.{Sound}
 use Rattle.state.specs.Agree.{test-of-sound}
 use Rattle.rules.specs.Store.{seen_length}
@@ -30,17 +30,11 @@ use Rattle.rules.proofs.Messages.{ask_read, ask_write, ask_close, ask_session_st
 use Rattle.rules.proofs.Situations.{scan_name, letter_a, writing_row, written_slot, writer, new_image, verify_row, two_writers, two_good, two-first, two-second, two-slot}
 use Rattle.rules.proofs.Situations.{writer_and_verify, verify-good, verify-first, verify-second, verify-slot}
 use Rattle.rules.proofs.Examples.{Writes}
-use Rattle.guarantees.proofs.Merging.{Event, message, job_ended, step, NamedBy, Mine, merge-two}
+use Rattle.guarantees.proofs.Merging.{merge-two}
+use Rattle.guarantees.specs.Merging.{Event, message, job_ended, step, NamedBy, Mine}
 use Rattle.guarantees.proofs.Steps.{codes, Goes, by-message, by-outcome, ends, on}
 use Rattle.guarantees.proofs.Sessions.{write-then-read, stat-then-close}
-
--- the bytes that are written
-abbrev pub some_bytes : List ℕ
-some_bytes = 7 ∷ 8 ∷ 9 ∷ []
-
--- a Write and a Read of session 0; the clock runs backward
-abbrev pub write_and_read : List Event
-write_and_read = message 200 (ask_write 0 0 some_bytes) ∷ message 150 (ask_read 0 0 3) ∷ []
+use Rattle.guarantees.proofs.PremisesAre.{some_bytes, write_and_read, Met}
 
 -- SessionStat and Close of session 1
 abbrev pub stat_and_close : List Event
@@ -49,17 +43,6 @@ stat_and_close = message 120 (ask_session_stat 1) ∷ message 300 (ask_close 1) 
 -- of the flash session, which has the identifier 1 and a job that runs: SessionStat, a Close too early, the job's good end and an outcome without a job, Close, and SessionStat after it
 abbrev pub whole_verify : List Event
 whole_verify = message 120 (ask_session_stat 1) ∷ message 130 (ask_close 1) ∷ job_ended true ∷ job_ended false ∷ message 300 (ask_close 1) ∷ message 90 (ask_session_stat 1) ∷ []
-
--- what is shown of a state with two sessions, and of the second one's list ys with the codes cs
-pub record Met (s : State) (ys : List Event) (cs : List ℕ) : Type 0 where
-  pub is-sound : is_sound s ≡ true
-  pub first-owns : All (Mine s 0) write_and_read
-  pub second-owns : All (Mine s 1) ys
-  -- what every event is answered
-  pub first-codes : codes (alone step s write_and_read) ≡ success ∷ success ∷ []
-  pub second-codes : codes (alone step s ys) ≡ cs
-  -- so demand 3 speaks of every merge of the two lists
-  pub merged : (zs : List (ℕ × Event)) → Merge 0 1 write_and_read ys zs → Same step s zs (tag 0 write_and_read ++ tag 1 ys) × Same step s zs (tag 1 ys ++ tag 0 write_and_read)
 
 -- a message that asks q names whom q names
 owns : (m : List ℕ) (q : Request) (id : ℕ) → decoded m ≡ q → NamedBy q id → NamedBy (decoded m) id

@@ -20,7 +20,7 @@ use Rattle.protocol.specs.declared.Request.TheVariants.{Count, Enumerate, Open, 
 use Rattle.state.specs.declared.row.Place.{Place}
 use Rattle.state.specs.declared.row.Place.TheVariants.{AtSlot, AtFlash}
 use Rattle.state.specs.State.{State, Row, Slot, FlashBody, Body, place_of, in_row, in_body, cell}
-use Rattle.state.specs.Parts.{cell-steady}
+use Rattle.state.proofs.Parts.{cell-steady}
 use Rattle.state.specs.Words.{blob_of, status_of, writes, blob, free_slot}
 use Rattle.state.specs.Soundness.{is_sound, slot_at}
 use Rattle.rules.specs.Store.{read_store, stored, write_store, commit_writing, commit_store, on_store}
@@ -37,6 +37,7 @@ use Rattle.rules.specs.Lookup.{slot_named}
 use Rattle.rules.specs.Opening.{opened, held_slot, new_slot, opened_flash}
 use Rattle.rules.specs.Named.{delete_blob, delete_store}
 use Rattle.rules.proofs.OpenLaws.{open-store-has, open-flash-has}
+use Rattle.guarantees.specs.Refusals.{left_by, left_in}
 
 -- what a refusal leaves as found
 abbrev Refusal : Reply → Type 0
@@ -182,21 +183,6 @@ keep-delete (Flash k) m s = λ h. refl
 keep-delete Base m s = λ h. refl
 keep-delete Unknown m s = λ h. refl
 
--- the state as a refusal of the request q leaves it: as found, but for Open, which has swept
-abbrev pub left_by : Request → ℕ → State → State
-left_by Count t s = s
-left_by (Enumerate index) t s = s
-left_by (Open flags b) t s = swept t s
-left_by (Read session offset n) t s = s
-left_by (Write session offset start) t s = s
-left_by (Commit session len rest) t s = s
-left_by (Close session) t s = s
-left_by (Delete b) t s = s
-left_by (Stat b) t s = s
-left_by (SessionStat session) t s = s
-left_by (WriteMeta session) t s = s
-left_by (Refused code) t s = s
-
 keep-answered : (q : Request) (t : ℕ) (m : List ℕ) (s : State) → Keeps (left_by q t s) (answered q t m s)
 unfolding answered
 keep-answered Count t m s = λ h. refl
@@ -236,11 +222,6 @@ silent-nothing (reply f) = refl
 pub record Nothing (o : Effect) (s : State) : Type 0 where
   pub no-response : o.response ≡ []
   pub as-found : o.state ≡ s
-
--- where the state is not sound, nothing is done
-abbrev pub left_in : Bool → Request → ℕ → State → State
-left_in true q t s = left_by q t s
-left_in false q t s = s
 
 -- A REFUSED MESSAGE CHANGES NOTHING AND WRITES NO RESPONSE, BUT FOR OPEN'S SWEEP (rule 21.1)
 pub refused-message : (t : ℕ) (m : List ℕ) (s : State) → (respond t m s).code ≢ success → Nothing (respond t m s) (left_in (is_sound s) (decoded m) t s)

@@ -11,7 +11,8 @@ use Rattle.protocol.specs.declared.Request.TheVariants.{Read, Write, Close, Sess
 use Rattle.state.specs.declared.row.Place.{Place}
 use Rattle.state.specs.declared.row.Place.TheVariants.{AtSlot, AtFlash}
 use Rattle.state.specs.State.{State, Row, Slot, Body, place_of, in_row, in_body, cell}
-use Rattle.state.specs.Parts.{FitsSlot, FitsRow, cell-get-put, row-view-fits, body-view-fits}
+use Rattle.state.specs.Parts.{FitsSlot, FitsRow, row-view-fits, body-view-fits}
+use Rattle.state.proofs.Parts.{cell-get-put}
 use Rattle.state.specs.Words.{id_of, blob_of, status_of, ident, blob, Live, stamped, stamp_of, status_in}
 use Rattle.state.specs.Soundness.{slot_at, is_sound}
 use Rattle.state.specs.Facts.{Session, Sound}

@@ -13,8 +13,9 @@ use Rattle.rules.specs.Command.{end_job}
 use Rattle.rules.specs.Session.{on_session}
 use Rattle.rules.specs.Respond.{Effect, effect_of, answered, silent}
 use Rattle.rules.proofs.Laws.{respond-is, job_is}
-use Rattle.guarantees.proofs.Merging.{Event, message, job_ended, step}
-use Rattle.guarantees.proofs.FlashPromise.{next, run, next-sound}
+use Rattle.guarantees.specs.Merging.{Event, message, job_ended, step}
+use Rattle.guarantees.proofs.FlashPromise.{next-sound}
+use Rattle.guarantees.specs.FlashPromise.{next, run}
 
 -- the completion codes of answers
 abbrev pub codes : List Answer → List ℕ

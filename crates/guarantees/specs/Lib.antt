@@ -1,0 +1,4 @@
+pub mod Merging
+pub mod FlashPromise
+pub mod Fits
+pub mod Refusals

@@ -19,7 +19,8 @@ use Rattle.state.specs.declared.Phase.{Phase}
 use Rattle.state.specs.State.{State}
 use Rattle.state.specs.Soundness.{slot_at}
 use Rattle.rules.specs.Listing.{only, committed_names, flash_names, listed, enumerated}
-use Rattle.rules.specs.Counting.{flash_count, committed-count}
+use Rattle.rules.specs.Counting.{flash_count}
+use Rattle.rules.proofs.Counting.{committed-count}
 use Rattle.name_list.specs.declared.Listed.TheVariants.{Base, Slot, Flash, Outside}
 use Rattle.lookup.specs.Search.{Nth}
 use Rattle.name_list.specs.Listed.{flash_at, InStore, listed_reply, flash_kinds, behind, names_from, flash_from}

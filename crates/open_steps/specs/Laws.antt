@@ -9,7 +9,7 @@ use Rattle.protocol.specs.Frame.{reply}
 use Rattle.state.specs.declared.row.Place.{Place}
 use Rattle.state.specs.declared.row.Place.TheVariants.{AtSlot, AtFlash}
 use Rattle.state.specs.State.{State, Body, Slots, in_row, in_body, in_store, slot_of}
-use Rattle.state.specs.Parts.{slot_of-steady}
+use Rattle.state.proofs.Parts.{slot_of-steady}
 use Rattle.state.specs.Soundness.{slot_at}
 use Rattle.rules.specs.Store.{with_staged}
 use Rattle.memory_slots.specs.Slots.{staged_as, staged-put}

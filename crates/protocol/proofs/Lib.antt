@@ -2,3 +2,4 @@ pub mod Sizes
 pub mod BodyLayout
 pub mod NameForms
 pub mod Naming
+pub mod Inside

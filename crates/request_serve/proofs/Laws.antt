@@ -13,7 +13,8 @@ use Rattle.laws.specs.Bytes.{zeros}
 use Rattle.protocol.specs.Names.{store_field}
 use Rattle.protocol.specs.Numbers.{row_count, slot_count, slot_size}
 use Rattle.protocol.specs.Decode.{decoded}
-use Rattle.protocol.specs.Inside.{Inside, decoded-inside}
+use Rattle.protocol.specs.Inside.{Inside}
+use Rattle.protocol.proofs.Inside.{decoded-inside}
 use Rattle.protocol.specs.declared.Request.{Request}
 use Rattle.protocol.specs.Frame.{Reply}
 use Rattle.state.specs.State.{State, Slot}

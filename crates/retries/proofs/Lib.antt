@@ -1,2 +1,3 @@
 pub mod Twice
 pub mod Retry
+pub mod Retries

@@ -1,6 +1,6 @@
 -- A RETRY CHANGES NOTHING: the same message, sent again at the same clock, leaves the state as the first left it, whatever it is and whatever it was answered. Every message but an accepted Open,
 -- Close or Delete is answered alike again. Assumes nothing.
-use Rattle.std.specs.Prelude.{◌≡◌, ◌≢◌, Bool, true, cond, List, [], ℕ, ◌+◌, ◌≤◌, ◌<◌, leb, length}
+use Rattle.std.specs.Prelude.{◌≡◌, ◌≢◌, Bool, true, cond, List, [], ℕ, ◌+◌, ◌≤◌, ◌<◌}
 use Rattle.std.proofs.Math.Path.{refl, sym, ap}
 use Rattle.std.proofs.Common.{◌∙◌, subst}
 use Rattle.std.proofs.Math.Bool.{false}
@@ -25,7 +25,8 @@ use Rattle.protocol.specs.declared.Request.TheVariants.{Count, Enumerate, Open, 
 use Rattle.state.specs.declared.row.Place.{Place}
 use Rattle.state.specs.declared.row.Place.TheVariants.{AtSlot, AtFlash}
 use Rattle.state.specs.State.{State, Row, Slot, FlashBody, Body, place_of, in_row, in_body, cell}
-use Rattle.state.specs.Parts.{FitsSlot, cell-get-put, cell-steady, row-view-fits, body-view-fits, row_put}
+use Rattle.state.specs.Parts.{FitsSlot, row-view-fits, body-view-fits}
+use Rattle.state.proofs.Parts.{cell-get-put, cell-steady, row_put}
 use Rattle.state.specs.Words.{id_of, blob_of, status_of, writes_with, store_flags, flash_flags, ident, blob, Live, free_row, free_slot}
 use Rattle.state.specs.Soundness.{slot_at, is_sound}
 use Rattle.state.specs.Facts.{Session, Sound}
@@ -34,7 +35,7 @@ use Rattle.rules.specs.Store.{with_staged}
 use Rattle.rules.specs.Command.{Command, close}
 use Rattle.rules.specs.Flash.{close_flash, on_flash}
 use Rattle.state.specs.declared.row.Wanted.TheVariants.{Id, OnBlob, OnFlash}
-use Rattle.rules.specs.Session.{on_part, on_place, on_row, absent, on_found, on_session, row_found}
+use Rattle.rules.specs.Session.{on_part, on_place, on_row, on_found, on_session, row_found}
 use Rattle.rules.specs.Sweep.{due, swept}
 use Rattle.rules.proofs.Sweeping.{close-frees, swept-due, swept-not}
 use Rattle.rules.specs.Lookup.{slot_named, free_row_in, free_slot_in, fresh_id}
@@ -49,7 +50,8 @@ use Rattle.rules.specs.Searches.{free-row, free-slot, named-slot, found-row, non
 use Rattle.rules.proofs.Change.{Proper, row_new}
 use Rattle.guarantees.proofs.Merging.{in-range, proper-row, on-row-sound}
 use Rattle.guarantees.proofs.Keep.{number-high, swept-sound, respond-sound}
-use Rattle.guarantees.proofs.Refusals.{left_by, left_in, refused-message}
+use Rattle.guarantees.proofs.Refusals.{refused-message}
+use Rattle.guarantees.specs.Refusals.{left_by, left_in}
 use Rattle.scans.proofs.Found.{named-at}
 use Rattle.scans.proofs.Left.{absent_none, gone-absent}
 use Rattle.retries.proofs.Twice.{part-again, part-goes}
@@ -392,7 +394,7 @@ module _ (t : ℕ) (m : List ℕ) (s : State) (q : Request) (d : decoded m ≡ q
   sound : is_sound s ≡ true
   sound = accepted-sound t m s ok
 
-  first-is : respond t m s ≡ effect_of (framed (number_of q) out.0) out.1
+  pub first-is : respond t m s ≡ effect_of (framed (number_of q) out.0) out.1
   first-is = respond-is t m s sound ∙ ap (λ (x : Request). effect_of (framed (number_of x) (answered x t m s).0) (answered x t m s).1) d
 
   good : is_sound out.1 ≡ true
@@ -425,38 +427,3 @@ pub delete-again : (t : ℕ) (m : List ℕ) (s : State) (b : Blob) → decoded m
 unfolding answered
 delete-again t m s b d ok =
     then-refused t m s (Delete b) d ok not_found (delete-gone b m s (sound-of-test s (accepted-sound t m s ok)) (code_is t m s (Delete b) d ok))
-
--- ---- all messages
--- the request that was made decides
-retry-by : (q : Request) (t : ℕ) (m : List ℕ) (s : State) → decoded m ≡ q → (respond t m s).code ≡ success → (again t m s).state ≡ (respond t m s).state
-unfolding answered
-retry-by q t m s d ok = go q d
-  where
-    state-of : {o p : Effect} → o ≡ p → o.state ≡ p.state
-    state-of e = ap (λ (x : Effect). x.state) e
-
-    -- a number that is none of the three
-    alike : (x : Request) → decoded m ≡ x → number_of x ≢ open_command → number_of x ≢ close_command → number_of x ≢ delete_command → (again t m s).state ≡ (respond t m s).state
-    alike x e a b c = state-of (retry-same t m s (λ z. a (sym (ap number_of e) ∙ z)) (λ z. b (sym (ap number_of e) ∙ z)) (λ z. c (sym (ap number_of e) ∙ z)))
-
-    go : (x : Request) → decoded m ≡ x → (again t m s).state ≡ (respond t m s).state
-    go Count e = alike Count e (λ z. omega arith) (λ z. omega arith) (λ z. omega arith)
-    go (Enumerate index) e = alike (Enumerate index) e (λ z. omega arith) (λ z. omega arith) (λ z. omega arith)
-    go (Open flags b) e = state-of (open-again t m s flags b e ok)
-    go (Read session offset n) e = alike (Read session offset n) e (λ z. omega arith) (λ z. omega arith) (λ z. omega arith)
-    go (Write session offset start) e = alike (Write session offset start) e (λ z. omega arith) (λ z. omega arith) (λ z. omega arith)
-    go (Commit session len rest) e = alike (Commit session len rest) e (λ z. omega arith) (λ z. omega arith) (λ z. omega arith)
-    go (Close session) e = state-of (close-again t m s session e ok)
-    go (Delete b) e = state-of (delete-again t m s b e ok)
-    go (Stat b) e = alike (Stat b) e (λ z. omega arith) (λ z. omega arith) (λ z. omega arith)
-    go (SessionStat session) e = alike (SessionStat session) e (λ z. omega arith) (λ z. omega arith) (λ z. omega arith)
-    go (WriteMeta session) e = alike (WriteMeta session) e (λ z. omega arith) (λ z. omega arith) (λ z. omega arith)
-    go (Refused code) e = ap (λ (x : State). (respond t m x).state) (state-of (first-is t m s (Refused code) e ok))
-
--- A RETRY CHANGES NOTHING: whatever the message, the clock and the state, and whatever the first was answered (rule 21.14)
-pub retry-keeps : (t : ℕ) (m : List ℕ) (s : State) → (again t m s).state ≡ (respond t m s).state
-retry-keeps t m s = go (ℕ_discrete (respond t m s).code success)
-  where
-    go : Dec ((respond t m s).code ≡ success) → (again t m s).state ≡ (respond t m s).state
-    go (yes ok) = retry-by (decoded m) t m s refl ok
-    go (no n) = ap (λ (o : Effect). o.state) (refused-again t m s n)

@@ -7,7 +7,8 @@ use Rattle.protocol.specs.Numbers.{row_count, slot_count, row_words, sixteen_bit
 use Rattle.state.specs.declared.row.Place.{Place}
 use Rattle.state.specs.declared.row.Place.TheVariants.{AtSlot, AtFlash}
 use Rattle.state.specs.State.{State, Row, Slot, Body, place_of, in_row, in_body, cell}
-use Rattle.state.specs.Parts.{Separate, InRange, Shape, FitsRow, FitsBody, cell-shape, cell-get-put, cell-row-other, cell-body-other}
+use Rattle.state.specs.Parts.{Separate, InRange, Shape, FitsRow, FitsBody}
+use Rattle.state.proofs.Parts.{cell-shape, cell-get-put, cell-row-other, cell-body-other}
 use Rattle.state.specs.Words.{id_of, blob_of, ident, blob, Live}
 use Rattle.state.specs.Soundness.{slot_at}
 use Rattle.state.specs.Facts.{Session, Unheld, Sound}

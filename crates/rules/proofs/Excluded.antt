@@ -26,7 +26,8 @@ use Rattle.state.specs.declared.Phase.TheVariants.{Uploading}
 use Rattle.state.specs.declared.row.Place.{Place}
 use Rattle.state.specs.declared.row.Place.TheVariants.{AtSlot, AtFlash}
 use Rattle.state.specs.State.{State, Row, Slot, FlashBody, Body, place_of, in_row, in_body}
-use Rattle.state.specs.Parts.{FitsRow, row-view-fits, row_put}
+use Rattle.state.specs.Parts.{FitsRow, row-view-fits}
+use Rattle.state.proofs.Parts.{row_put}
 use Rattle.state.specs.Words.{word_of, stamp_of, flags_in, status_of, word_with, writes, writing_in, stamped, with_clean, flags-with, blob_of, blob, Live, status_in, clean_in, with_status}
 use Rattle.state.specs.Soundness.{slot_at, is_sound}
 use Rattle.rules.specs.Store.{read_count, read_store, stored, write_store, on_store, seen_length, with_staged, seen_bytes, commit_writing, commit_store}
@@ -38,7 +39,8 @@ use Rattle.rules.proofs.Messages.{thirty_two_bits, four_bytes, sent}
 use Rattle.rules.proofs.Situations.{writer, writer-slot, other-slot}
 use Rattle.rules.specs.Flash.{write_flash, startable, verify_job, update_job, commit_kind, commit_flash, on_flash, flash_length}
 use Rattle.rules.proofs.Examples.{count-answer}
-use Rattle.rules.specs.Counting.{flash_count, count-is}
+use Rattle.rules.specs.Counting.{flash_count}
+use Rattle.rules.proofs.Counting.{count-is}
 use Rattle.rules.specs.Respond.{Effect, respond}
 use Rattle.state.specs.Agree.{sound-of-test}
 use Rattle.rules.specs.Lookup.{slot_named, fresh_id, after}

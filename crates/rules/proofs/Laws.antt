@@ -10,7 +10,7 @@ use Rattle.protocol.specs.Numbers.{row_words, too_long, out_of_range, answer_siz
 use Rattle.protocol.specs.Decode.{decoded, number_of}
 use Rattle.protocol.specs.Frame.{framed}
 use Rattle.state.specs.State.{State, Row, in_row, place_of, in_body, cell}
-use Rattle.state.specs.Parts.{cell-row-other, table_kept}
+use Rattle.state.proofs.Parts.{cell-row-other, table_kept}
 use Rattle.state.specs.Soundness.{is_sound}
 use Rattle.rules.specs.Command.{end_job, Out, refuse, placed, Command}
 use Rattle.state.specs.declared.row.Wanted.TheVariants.{OnFlash}

@@ -10,3 +10,4 @@ pub mod Excluded
 pub mod Committed
 pub mod Effects
 pub mod Places
+pub mod Counting

@@ -13,7 +13,8 @@ use Rattle.protocol.specs.Names.{base, alnum, store_name, store_field, kind_of}
 use Rattle.state.specs.declared.row.Place.{Place}
 use Rattle.state.specs.declared.row.Place.TheVariants.{AtSlot, AtFlash}
 use Rattle.state.specs.State.{State, Row, Slot, in_row, cell, FlashBody, Body, place_of}
-use Rattle.state.specs.Parts.{FitsSlot, cell-get-put, cell-row-other, cell-body-other, Separate, FitsBody, row_put}
+use Rattle.state.specs.Parts.{FitsSlot, Separate, FitsBody}
+use Rattle.state.proofs.Parts.{cell-get-put, cell-row-other, cell-body-other, row_put}
 use Rattle.state.specs.Words.{Live, fresh, id_of, blob_of, ident, word_with, store_writes}
 use Rattle.state.specs.Soundness.{slot_at, is_sound}
 use Rattle.state.specs.Facts.{StoreSession, Sound, PhaseOk, FlashSession, Session}

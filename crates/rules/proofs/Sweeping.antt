@@ -12,7 +12,8 @@ use Rattle.protocol.specs.declared.Blob.{Blob}
 use Rattle.state.specs.declared.row.Place.{Place}
 use Rattle.state.specs.declared.row.Place.TheVariants.{AtSlot, AtFlash}
 use Rattle.state.specs.State.{State, Row, Body, place_of, in_row, in_body, cell}
-use Rattle.state.specs.Parts.{FitsRow, cell-row-other, row_put}
+use Rattle.state.specs.Parts.{FitsRow}
+use Rattle.state.proofs.Parts.{cell-row-other, row_put}
 use Rattle.state.specs.Words.{blob_of, stamp_of, status_of, blob, in_use, free_row}
 use Rattle.state.specs.Soundness.{slot_at}
 use Rattle.rules.specs.Store.{on_store}

@@ -3,4 +3,5 @@ pub mod Safe
 pub mod Found
 pub mod Uploaded
 pub mod Left
-pub mod Met
+pub mod ItHappens
+pub mod CommitKeeps

@@ -23,7 +23,8 @@ use Rattle.protocol.specs.declared.Request.{Request}
 use Rattle.protocol.specs.declared.Request.TheVariants.{Count, Enumerate, Open, Read, Write, Commit, Close, Delete, Stat, SessionStat, WriteMeta, Refused}
 use Rattle.state.specs.declared.row.Place.TheVariants.{AtSlot}
 use Rattle.state.specs.State.{State, Row, Slot, in_row, in_body, cell}
-use Rattle.state.specs.Parts.{FitsSlot, cell-body-other, body-view-fits, row-body, body-indep, body-get-put}
+use Rattle.state.specs.Parts.{FitsSlot, body-view-fits}
+use Rattle.state.proofs.Parts.{cell-body-other, row-body, body-indep, body-get-put}
 use Rattle.state.specs.Words.{writes_with, free_slot, in_use, blob, Live}
 use Rattle.state.specs.Soundness.{slot_at, is_sound}
 use Rattle.state.specs.Facts.{Sound}
@@ -43,11 +44,13 @@ use Rattle.rules.specs.Respond.{Effect, answered, respond, job_outcome}
 use Rattle.rules.proofs.Laws.{respond-is, job_is, cond_has, some-has, none_has}
 use Rattle.rules.proofs.OpenLaws.{open-store-has, open-flash-has}
 use Rattle.rules.specs.Searches.{found-live, free-slot, named-slot}
-use Rattle.guarantees.proofs.Merging.{Event, message, job_ended}
+use Rattle.guarantees.specs.Merging.{Event, message, job_ended}
 use Rattle.guarantees.proofs.StorePart.{freed-fits}
 use Rattle.guarantees.proofs.Keep.{sweep-rows-sound, swept-sound}
-use Rattle.guarantees.proofs.Refusals.{left_by, left_in, refused-message}
-use Rattle.guarantees.proofs.FlashPromise.{next, run, next-sound}
+use Rattle.guarantees.proofs.Refusals.{refused-message}
+use Rattle.guarantees.specs.Refusals.{left_by, left_in}
+use Rattle.guarantees.proofs.FlashPromise.{next-sound}
+use Rattle.guarantees.specs.FlashPromise.{next, run}
 use Rattle.rules.proofs.Committed.{Scan, scan_in, same_name, has_name, committed_as, Alike, alike-eq, alike_then, alike-off, off-name, off-mark, Spares, staged-anew, leaves-store}
 use Rattle.scans.proofs.Scan.{scan_of, on_name, deletes, asks_to_replace, replaces, left_alone}
 use Rattle.guarantees.proofs.After.{own-part, other-slot}

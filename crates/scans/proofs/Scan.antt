@@ -17,8 +17,8 @@ use Rattle.rules.specs.Checks.{whether}
 use Rattle.rules.proofs.Committed.{Scan, scan_in, same_name, has_name, committed_as}
 use Rattle.rules.specs.Session.{row_found}
 use Rattle.rules.specs.Respond.{respond}
-use Rattle.guarantees.proofs.Merging.{Event, message, job_ended}
-use Rattle.guarantees.proofs.FlashPromise.{next}
+use Rattle.guarantees.specs.Merging.{Event, message, job_ended}
+use Rattle.guarantees.specs.FlashPromise.{next}
 
 -- THE SCAN COMMITTED UNDER A NAME, if there is one (rule 21.10)
 unfoldable pub scan_of : List ℕ → State → Option Scan

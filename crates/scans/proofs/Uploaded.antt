@@ -4,24 +4,25 @@ use Rattle.std.proofs.Math.Path.{refl, ap, subst}
 use Rattle.std.proofs.Common.{sym, ◌∙◌}
 use Rattle.std.proofs.Math.Option.{none, some}
 use native.Mathlib.Omega.{arith}
-use Rattle.laws.specs.Bytes.{bytes_of, same, same_true, padded}
+use Rattle.laws.specs.Bytes.{same_true}
 use Rattle.laws.specs.Ranges.{part}
-use Rattle.protocol.specs.Numbers.{slot_count, name_size, success, read_only, open_command, read_command, commit_command, session_stat_command, state_open_read, state_committed}
+use Rattle.protocol.specs.Numbers.{slot_count, success, read_only, open_command, read_command, session_stat_command, state_open_read, state_committed}
 use Rattle.protocol.specs.Decode.{decoded}
-use Rattle.protocol.specs.Frame.{Reply, refused, done, reply, framed, stat_fields}
+use Rattle.protocol.specs.Frame.{Reply, refused, framed, stat_fields}
 use Rattle.protocol.specs.declared.Blob.TheVariants.{Store}
 use Rattle.protocol.specs.declared.Request.TheVariants.{Open, Read, Commit, SessionStat}
 use Rattle.state.specs.declared.row.Place.TheVariants.{AtSlot}
 use Rattle.state.specs.State.{State, Row, Slot, in_row, cell}
-use Rattle.state.specs.Parts.{cell-get-put, body-view-fits}
-use Rattle.state.specs.Words.{id_of, blob_of, word_of, writes, store_flags, ident, blob, Live, stamped, with_clean}
+use Rattle.state.specs.Parts.{body-view-fits}
+use Rattle.state.proofs.Parts.{cell-get-put}
+use Rattle.state.specs.Words.{id_of, blob_of, word_of, writes, store_flags, ident, blob, Live}
 use Rattle.state.specs.Soundness.{slot_at, is_sound}
 use Rattle.state.specs.Facts.{Sound}
 use Rattle.state.specs.Agree.{sound-of-test}
-use Rattle.rules.specs.Store.{seen_bytes, seen_length, read_count, read_store, committed_slot, on_store}
-use Rattle.rules.specs.Command.{read, commit, stat, Out, state_bits}
+use Rattle.rules.specs.Store.{seen_bytes, seen_length, read_count, read_store, on_store}
+use Rattle.rules.specs.Command.{read, stat, state_bits}
 use Rattle.state.specs.declared.row.Wanted.TheVariants.{OnBlob}
-use Rattle.rules.specs.Session.{on_row, row_found}
+use Rattle.rules.specs.Session.{row_found}
 use Rattle.rules.specs.Sweep.{swept}
 use Rattle.rules.specs.Lookup.{slot_named, free_row_in, fresh_id}
 use Rattle.rules.specs.Opening.{new_row, opened, held_slot}
@@ -30,15 +31,18 @@ use Rattle.rules.specs.Respond.{Effect, effect_of, answered, respond}
 use Rattle.rules.proofs.OpenLaws.{open-store-has}
 use Rattle.rules.specs.Searches.{free-row}
 use Rattle.rules.proofs.Messages.{sent}
-use Rattle.guarantees.proofs.Merging.{Event, on-row-sound}
+use Rattle.guarantees.specs.Merging.{Event}
 use Rattle.guarantees.proofs.Keep.{swept-sound, respond-sound}
-use Rattle.guarantees.proofs.FlashPromise.{run, run_sound}
+use Rattle.guarantees.proofs.FlashPromise.{run_sound}
+use Rattle.guarantees.specs.FlashPromise.{run}
 use Rattle.guarantees.proofs.Sessions.{asked_of}
-use Rattle.rules.proofs.Committed.{Scan, scan_in, same_name, has_name, commits}
+use Rattle.rules.proofs.Committed.{Scan, scan_in, same_name, has_name}
 use Rattle.scans.proofs.Scan.{scan_of, left_alone}
-use Rattle.guarantees.proofs.After.{own-part, own-reply, open_is}
+use Rattle.guarantees.proofs.After.{own-reply, open_is}
 use Rattle.scans.proofs.Safe.{committed-safe, sweep-same}
-use Rattle.scans.proofs.Found.{committed-says, marked-held, named-at, scan-at, Stands, scan-slot}
+use Rattle.scans.proofs.Found.{committed-says, marked-held, named-at, Stands, scan-slot}
+use Rattle.scans.specs.Uploaded.{Shows, Opens, Uploaded}
+use Rattle.scans.proofs.CommitKeeps.{commit-keeps}
 
 -- ---- what an open store session is shown
 module _ (s : State) (h : is_sound s ≡ true) (i : ℕ) (l : Live i s) (low : blob i s < slot_count) where
@@ -72,61 +76,6 @@ module _ (s : State) (h : is_sound s ≡ true) (i : ℕ) (l : Live i s) (low : b
         ap (λ (o : Effect). o.code) e ∙ ap (λ (x : Reply). (framed session_stat_command x).0) f,
         ap (λ (o : Effect). o.response) e ∙ ap (λ (x : Reply). (framed session_stat_command x).1) f,
       )
-
--- ---- Commit
--- A COMMIT OF A SESSION THAT WRITES IS ACCEPTED, AND THE SCAN UNDER ITS NAME IS WHAT THE SESSION HAS STAGED, length and every byte (rule 21.11)
-pub commit-keeps : (n : List ℕ) (t i : ℕ) (m : List ℕ) (s : State) → is_sound s ≡ true → Live i s → blob i s < slot_count → writes ((in_row i).get s) ≡ true → has_name n (slot_at (blob i s) s) ≡ true
-    → decoded m ≡ Commit (ident i s) 0 0
-    → ((respond t m s).code ≡ success) × (scan_of n (respond t m s).state ≡ some (record { len = (slot_at (blob i s) s).staged_len; bytes = (slot_at (blob i s) s).staged_bytes }))
-unfolding answered framed
-commit-keeps n t i m s h l low w name d = (
-  ap (λ (o : Effect). o.code) asked ∙ ap (λ (x : Reply). (framed commit_command x).0) (own-reply s g₁ i l t (commit 0 0) low ∙ ap (λ (o : Out Slot). o.0) did),
-  ap (λ (o : Effect). scan_of n o.state) asked ∙ scan-at after good n k low held named marked ∙ ap (λ (b : Slot). some (scan_in b)) now,
-)
-  where
-    g₁ : Sound s
-    g₁ = sound-of-test s h
-
-    k : ℕ
-    k = blob i s
-
-    did : on_store t (commit 0 0) ((in_row i).get s) (slot_at (blob i s) s) ≡ (done, (stamped t (with_clean 1 ((in_row i).get s)), committed_slot (slot_at (blob i s) s)))
-    did = commits t ((in_row i).get s) (slot_at (blob i s) s) w
-
-    asked : respond t m s ≡ effect_of (framed commit_command (on_row i t (commit 0 0) s).0) (on_row i t (commit 0 0) s).1
-    asked = asked_of t i m (Commit (ident i s) 0 0) (commit 0 0) s g₁ l d refl
-
-    after : State
-    after = (on_row i t (commit 0 0) s).1
-
-    good : Sound (on_row i t (commit 0 0) s).1
-    good = on-row-sound s g₁ i l t (commit 0 0)
-
-    now : slot_at (blob i s) (on_row i t (commit 0 0) s).1 ≡ committed_slot (slot_at (blob i s) s)
-    now = ap (λ (x : Row × Slot). x.1) (own-part s g₁ i l t (commit 0 0) low) ∙ ap (λ (o : Out Slot). o.1.1) did
-
-    marked : (slot_at (blob i s) (on_row i t (commit 0 0) s).1).mark ≡ 1
-    marked = ap (λ (b : Slot). b.mark) now
-
-    held : (slot_at (blob i s) (on_row i t (commit 0 0) s).1).held ≡ 1
-    held = marked-held (on_row i t (commit 0 0) s).1 good (blob i s) low marked
-
-    named : (slot_at (blob i s) (on_row i t (commit 0 0) s).1).name ≡ padded name_size n
-    named = ap (λ (b : Slot). b.name) now ∙ same_true _ _ name
-
--- ---- Open for reading
--- what the session with this identifier is shown: of every Read the part of the scan, of SessionStat the scan's length, open for reading and committed
-pub record Shows (x : Scan) (id : ℕ) (s : State) : Type 0 where
-  pub reads : (u offset count : ℕ) (m : List ℕ) → decoded m ≡ Read id offset count
-      → ((respond u m s).code ≡ success) × ((respond u m s).response ≡ sent read_command (part offset (read_count count offset x.len) x.bytes))
-  pub sizes : (u : ℕ) (m : List ℕ) → decoded m ≡ SessionStat id
-      → ((respond u m s).code ≡ success) × ((respond u m s).response ≡ sent session_stat_command (stat_fields (state_open_read + state_committed) x.len))
-
--- an answer to an Open that gave a session, which is shown x
-pub record Opens (x : Scan) (o : Effect) : Type 0 where
-  pub id : ℕ
-  pub answer : o.response ≡ sent open_command (bytes_of 2 id)
-  pub shows : Shows x id o.state
 
 -- what a session sees, as a scan
 abbrev seen_by : Row → Slot → Scan
@@ -213,19 +162,6 @@ open-shows n x t at len m s h has d asked ok =
     let g₁ = sound-of-test s h in
     subst (Opens x) (sym e)
     (name-given n (part at len m) x t (swept t s) (swept-sound t s g₁) (sweep-same n t s g₁ ∙ has) asked (ap (λ (o : Effect). is_sound o.state) (sym e) ∙ respond-sound t m s h) (sym (ap (λ (o : Effect). o.code) e) ∙ ok))
-
--- ---- Write, Commit, and any time later an Open for reading
--- what two sessions are shown is the same: of each Read the same response, whatever the offset and the count
-abbrev pub ReadAlike : (id : ℕ) (s : State) (id' : ℕ) (s' : State) → Type 0
-ReadAlike id s id' s' = (u v offset count : ℕ) (a b : List ℕ) → decoded a ≡ Read id offset count → decoded b ≡ Read id' offset count
-    → ((respond u a s).code ≡ success) × ((respond v b s').code ≡ success) × ((respond v b s').response ≡ (respond u a s).response)
-
--- the later session, what it was answered, and that it reads what the session i read before its Commit
-pub record Uploaded (i : ℕ) (s : State) (o : Effect) : Type 0 where
-  pub id : ℕ
-  pub answer : o.response ≡ sent open_command (bytes_of 2 id)
-  pub alike : ReadAlike (ident i s) s id o.state
-  pub as_long : (u : ℕ) (m : List ℕ) → decoded m ≡ SessionStat id → (respond u m o.state).response ≡ sent session_stat_command (stat_fields (state_open_read + state_committed) (slot_at (blob i s) s).staged_len)
 
 -- WHAT A SESSION THAT WRITES READS WHEN IT COMMITS IS WHAT ANY LATER OPEN FOR READING OF ITS NAME SHOWS, unless an event between the two replaced it (rule 21.11)
 pub upload-shown : (n : List ℕ) (t i : ℕ) (m : List ℕ) (s : State) (es : List Event) (u at len : ℕ) (m' : List ℕ)

@@ -18,7 +18,7 @@ use Rattle.state.specs.Entry.{words_of}
 use Rattle.state.specs.declared.row.Place.{Place}
 use Rattle.state.specs.declared.row.Place.TheVariants.{AtSlot, AtFlash}
 use Rattle.state.specs.State.{State, Row, Body, place_of, in_row, in_body, cell, with_rows}
-use Rattle.state.specs.Parts.{cell-steady}
+use Rattle.state.proofs.Parts.{cell-steady}
 use Rattle.state.specs.Words.{blob, fresh}
 use Rattle.state.specs.Lent.{TableLent}
 use Rattle.state.specs.declared.row.Wanted.{Wanted}

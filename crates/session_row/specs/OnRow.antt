@@ -10,7 +10,7 @@ use Rattle.state.specs.Entry.{words_of}
 use Rattle.state.specs.declared.row.Place.{Place}
 use Rattle.state.specs.declared.row.Place.TheVariants.{AtSlot, AtFlash}
 use Rattle.state.specs.State.{State, Rows, Slots, FlashBody, Row, Slot, Body, place_of, row_of, slot_of, in_body, cell}
-use Rattle.state.specs.Parts.{cell-steady}
+use Rattle.state.proofs.Parts.{cell-steady}
 use Rattle.state.specs.Words.{free_row}
 use Rattle.rules.specs.Command.{Command, Out, refuse}
 use Rattle.rules.specs.Session.{on_part, on_place, on_row}

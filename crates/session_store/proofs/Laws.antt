@@ -17,7 +17,7 @@ use Rattle.state.specs.declared.row.Entry.{Entry}
 use Rattle.state.specs.Entry.{words_of, lifted, clean_set}
 use Rattle.state.specs.declared.row.Place.TheVariants.{AtSlot}
 use Rattle.state.specs.State.{State, Slots, Row, Slot, slot_of}
-use Rattle.state.specs.Parts.{slot_of-steady}
+use Rattle.state.proofs.Parts.{slot_of-steady}
 use Rattle.state.specs.Words.{writes, writing_in, stamped, with_clean, free_row, free_slot}
 use Rattle.state.specs.Soundness.{slot_at}
 use Rattle.rules.specs.Store.{on_store, read_store, read_count, seen_length, seen_bytes, write_store, stored, with_staged, commit_store, commit_writing, committed_slot, closed_slot, closed_writing, stat_store}

@@ -6,7 +6,7 @@ use Prim.Native.Nat.{ℕ, zero, suc, ◌-◌, ◌/◌, ◌%◌}
 use Rattle.laws.specs.All.{Or, this, that, or-true}
 use Rattle.laws.specs.Merge.{All}
 use Rattle.laws.specs.Bytes.{same}
-use Rattle.protocol.specs.Numbers.{success, not_sound, out_of_range, session_open, other_type, zero_field, wrong_type, bad_number, past_end, wrong_base, bad_name, repeated_name, long_data, many_blobs, slot_count, slot_size}
+use Rattle.protocol.specs.Numbers.{success, other_type, zero_field, wrong_type, bad_number, past_end, slot_count, slot_size}
 use Rattle.protocol.specs.Names.{base, store_name}
 use Rattle.protocol.proofs.NameForms.{one_of}
 use Rattle.state.specs.State.{State}
@@ -19,20 +19,13 @@ use Rattle.wire.specs.Base128.{number_at}
 use Rattle.wire.specs.Fields.{number_type, eight_type, four_type, bytes_type, readable, numbered, fixed, measured, value_at, KeyRule, keyed, field_at, misfit, known, store_keys}
 use Rattle.wire.specs.Walk.{Item, Walked, stopped, before, onward, walk_in}
 use Rattle.store_file.specs.Messages.{Scan, Reading, reading, blob_field, inside}
-use Rattle.store_file.specs.Saved.{Saved, Call, scans_of, contents, part_of, saved, buffer_size, saved_into}
+use Rattle.store_file.specs.Saved.{Saved, Call, scans_of, contents, part_of, buffer_size, saved_into}
 use Rattle.store_file.specs.Loaded.{every, different, reason, store_open, Loaded, loaded}
+use Rattle.store_guarantees.specs.Codes.{file_codes, save_codes}
 
 -- the codes of a walk over a message: no fault, or one of the five of the wire format
 abbrev pub wire_codes : List ℕ
 wire_codes = success ∷ other_type ∷ zero_field ∷ wrong_type ∷ bad_number ∷ past_end ∷ []
-
--- the codes of loading a file
-abbrev pub file_codes : List ℕ
-file_codes = success ∷ not_sound ∷ session_open ∷ other_type ∷ zero_field ∷ wrong_type ∷ bad_number ∷ past_end ∷ wrong_base ∷ bad_name ∷ repeated_name ∷ long_data ∷ many_blobs ∷ []
-
--- the codes of saving a part
-abbrev pub save_codes : List ℕ
-save_codes = success ∷ not_sound ∷ out_of_range ∷ []
 
 -- ---- what holds of both branches holds of the choice, and what holds of a whole list holds of each number of it
 either : {A : Type 0} (P : A → Type 0) (b : Bool) (x y : A) → P x → P y → P (cond b x y)

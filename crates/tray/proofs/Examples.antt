@@ -26,7 +26,8 @@ use Rattle.records.proofs.Samples.{empty_record, open_message, open_record, clos
 use Rattle.tray.specs.Tray.{tray_most, messages_in, tray_form, Done, done_first, done_in, tray_done, tray}
 use Rattle.tray.proofs.Steps.{done_none, done_full, done-one}
 use Rattle.tray.proofs.Call.{as_found, accepted-is, tray-done, tray-codes, refused-tray}
-use Rattle.tray.proofs.GoingOn.{going_on, together, sent_singly, reaches_end}
+use Rattle.tray.proofs.GoingOn.{sent_singly, reaches_end}
+use Rattle.tray.proofs.GoingOnIs.{going_on, together}
 
 -- ---- the messages
 -- an Open and the Close of its session, in one tray

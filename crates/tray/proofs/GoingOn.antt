@@ -11,34 +11,12 @@ use Rattle.state.specs.State.{State}
 use Rattle.state.specs.Soundness.{is_sound}
 use Rattle.rules.specs.Respond.{respond}
 use Rattle.records.specs.Records.{Timed}
-use Rattle.tray.specs.Tray.{tray_most, messages_in, tray_form, Done, nothing_done, Tray, tray}
-use Rattle.tray.proofs.Form.{start_of, Between, between-records}
+use Rattle.tray.specs.Tray.{tray_most, messages_in, tray_form, Done, Tray, tray}
+use Rattle.tray.proofs.Form.{Between, between-records}
 use Rattle.tray.proofs.Singly.{answers_to, state_after, packed, end_to_end, Beginning, none-begun}
 use Rattle.tray.proofs.Call.{accepted-is, code_is, DoneSingly, done-singly, tray-sound, results-long, tray-most, one-done}
 use Rattle.tray.proofs.CutInTwo.{done_then}
-
--- ---- the calls
--- what a call is lent for its answers: the buffer for the responses, and the words for the results
-abbrev pub Lent : Type 0
-Lent = List ℕ × List ℕ
-
--- the records that a call left: those behind the messages that it did
-abbrev pub left_by : Tray → (records : List ℕ) → List ℕ
-left_by r b = drop (start_of r.done b) b
-
--- one call behind the other, each with what the one before left (rule 21.33)
-abbrev pub going_on : List Lent → (records : List ℕ) → State → List Tray
-going_on [] b s = []
-going_on (l ∷ ls) b s = tray b s l.0 l.1 ∷ going_on ls (left_by (tray b s l.0 l.1) b) (tray b s l.0 l.1).state
-
--- what a call did, as it stands at the fronts of its buffers
-abbrev pub front_of : Tray → Done
-front_of r = record { results = take r.done r.results; responses = take r.len r.responses; state = r.state }
-
--- what all of them did
-abbrev pub together : List Tray → State → Done
-together [] s = nothing_done s
-together (r ∷ rs) s = done_then (front_of r) (together rs r.state)
+use Rattle.tray.proofs.GoingOnIs.{Lent, left_by, going_on, front_of, together, Room}
 
 -- ---- single calls, behind others
 answers-behind : (xs ys : List Timed) (s : State) → answers_to (xs ++ ys) s ≡ answers_to xs s ++ answers_to ys (state_after xs s)
@@ -129,10 +107,6 @@ goes_on (l ∷ ls) b s h f (u, us) =
       (accepted b s l.0 l.1 h f u, rest.0),
       beginning-on (messages_in b) s (front_of r) d (front-begins b s l.0 l.1 h f u) (subst (λ (qs : List Timed). Beginning qs r.state d) behind rest.1),
     )
-
--- each call is lent 64 bytes or more for its responses
-abbrev pub Room : List Lent → Type 0
-Room ls = All (λ (l : Lent). answer_size ≤ length l.0) ls
 
 all-reached : (ls : List Lent) (b : List ℕ) (s : State) → is_sound s ≡ true → tray_form b ≡ success → Words ls → Room ls
     → length (messages_in b) ≤ length ls → length (together (going_on ls b s) s).results ≡ length (messages_in b)

@@ -6,3 +6,4 @@ pub mod Call
 pub mod CutInTwo
 pub mod GoingOn
 pub mod Examples
+pub mod GoingOnIs

@@ -10,8 +10,8 @@ use Rattle.protocol.specs.Numbers.{answer_size}
 use Rattle.protocol.specs.Frame.{Answer}
 use Rattle.state.specs.State.{State}
 use Rattle.rules.specs.Respond.{Effect, respond}
-use Rattle.guarantees.proofs.Merging.{Event, message, step}
-use Rattle.guarantees.proofs.FlashPromise.{run}
+use Rattle.guarantees.specs.Merging.{Event, message, step}
+use Rattle.guarantees.specs.FlashPromise.{run}
 use Rattle.guarantees.proofs.Fits.{response-fits}
 use Rattle.records.specs.Records.{Timed}
 use Rattle.tray.specs.Tray.{code_unit, result_word, Done, nothing_done, done_first, done_in}

@@ -1,2 +1,3 @@
 pub mod Theorems
 pub mod Examples
+pub mod HowMany

@@ -1,59 +1,24 @@
 -- What a search says of the state: the row that the commands act on, and no more visits than there are used rows. Assumes nothing.
-use Rattle.std.specs.Prelude.{◌≡◌, refl, ◌≢◌, Bool, true, false, List, ℕ, suc, ◌+◌, ◌*◌, ◌-◌, ◌≤◌, ◌<◌, eqb, get_or}
+use Rattle.std.specs.Prelude.{◌≡◌, refl, ◌≢◌, Bool, true, false, List, ℕ, suc, ◌*◌, ◌-◌, ◌≤◌, ◌<◌, eqb, get_or}
 use Rattle.std.proofs.Common.{sym, ◌∙◌, ap, subst, true≢false, arith, eqb-true, eq-eqb, ne_eqb, lt-ltb}
 use Rattle.std.proofs.Math.Option.{Option, none, some}
-use Rattle.std.specs.Int.Count.{ones, ones_in}
 use Rattle.laws.specs.All.{and-true, and_both}
 use Rattle.laws.specs.Bits.{bit}
 use Rattle.laws.specs.Find.{found}
 use Rattle.laws.specs.Ranges.{block, get_d_part}
-use Rattle.laws.specs.Masks.{ones-more, ones-mono, ones-in}
 use Rattle.laws.specs.SetBits.{ones-most}
-use Rattle.protocol.specs.Numbers.{row_count, row_words, sixteen_bits, success, not_found, not_sound}
+use Rattle.protocol.specs.Numbers.{row_count, row_words, success, not_found, not_sound}
 use Rattle.protocol.specs.Frame.{refused}
 use Rattle.state.specs.State.{State, with_rows}
 use Rattle.state.specs.Words.{fresh, ident, Live}
 use Rattle.state.specs.Facts.{Sound}
-use Rattle.state.specs.declared.row.Wanted.{Wanted}
 use Rattle.state.specs.declared.row.Wanted.TheVariants.{Id}
 use Rattle.rules.specs.Command.{Command}
 use Rattle.rules.specs.Session.{wanted, row_found, on_row, on_found, on_session}
 use Rattle.rules.specs.Searches.{found-live, none_found, row-of-id}
-use Rattle.visits.specs.Visits.{used_below, rows_behind, visited, Looked, looked_by, not_looked, table_fits, looked_up}
-
--- ---- how many
--- a row that is found is visited, and so is every used row below it, and no other (rule 21.21)
-pub visited-found : (w : Wanted) (s : State) (r : ℕ) → row_found w s ≡ some r → visited w s ≡ suc (used_below r s)
-unfolding visited
-visited-found w s r e =
-    ap (λ (o : Option ℕ). used_below (rows_behind o) s) e ∙ ones-more r s.sessions.rows ∙ omega (arith, (found-live w s r e).1)
-
--- so at least one row is visited (rule 21.21)
-pub visited-least : (w : Wanted) (s : State) (r : ℕ) → row_found w s ≡ some r → 1 ≤ visited w s
-visited-least w s r e = omega (arith, visited-found w s r e)
-
--- where none is found, all used rows are visited (rule 21.21)
-pub visited-none : (w : Wanted) (s : State) → row_found w s ≡ none → visited w s ≡ used_below row_count s
-unfolding visited
-visited-none w s e = ap (λ (o : Option ℕ). used_below (rows_behind o) s) e
-
--- NEVER MORE THAN ARE USED (rule 21.21)
-pub visited-most : (w : Wanted) (s : State) → visited w s ≤ used_below row_count s
-visited-most w s = go (row_found w s) refl
-  where
-    go : (o : Option ℕ) → row_found w s ≡ o → visited w s ≤ used_below row_count s
-    go none e = omega (arith, visited-none w s e)
-    go (some r) e =
-        let l : r < row_count = (found-live w s r e).0 in
-        let m = s.sessions.rows in
-        let more : ones_in (suc r) m ≤ ones_in (suc r + (row_count - suc r)) m = ones-mono (suc r) (row_count - suc r) m in
-        let same : suc r + (row_count - suc r) ≡ row_count = omega arith in
-        let most : ones_in (suc r) m ≤ ones_in row_count m = rw same at more in
-        omega (arith, visited-found w s r e, ones-more r m, (found-live w s r e).1)
-
--- which are the ones of the mask
-pub used-are : (s : State) → s.sessions.rows < sixteen_bits → used_below row_count s ≡ ones s.sessions.rows
-used-are s h = ones-in row_count s.sessions.rows h
+use Rattle.visits.specs.Visits.{used_below, visited, Looked, looked_by, not_looked, table_fits, looked_up}
+use Rattle.visits.specs.Table.{Has, First}
+use Rattle.visits.proofs.HowMany.{visited-found, visited-none, visited-most}
 
 -- ---- the lookup
 -- no code is another
@@ -143,15 +108,6 @@ looked-small id m t =
     (λ (e : table_fits m t ≡ false). (omega arith, omega arith))
     (λ (r : ℕ) (e : row_found (Id id) (with_rows m t fresh) ≡ some r). ((found-live (Id id) (with_rows m t fresh) r e).0, few))
     (omega arith, few)
-
--- ---- in words of the table, whatever it holds
--- row r is used and has the identifier: the whole first word of the row counts
-abbrev pub Has : (id m : ℕ) (t : List ℕ) (r : ℕ) → Type 0
-Has id m t r = (bit r m ≡ 1) × (get_or t (r * row_words) 0 ≡ id)
-
--- r is the lowest such row
-abbrev pub First : (id m : ℕ) (t : List ℕ) (r : ℕ) → Type 0
-First id m t r = (r < row_count) × (Has id m t r × ((j : ℕ) → j < r → Has id m t j → ⊥))
 
 first_word : (t : List ℕ) (r : ℕ) → get_or ((block row_words r).get t) 0 0 ≡ get_or t (r * row_words) 0
 first_word t r = get_d_part (r * row_words) row_words 0 t 0 (omega arith) ∙ ap (λ (i : ℕ). get_or t i 0) (omega arith)

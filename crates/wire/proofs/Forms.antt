@@ -7,24 +7,7 @@ use Rattle.wire.specs.declared.Number.{Number}
 use Rattle.wire.specs.declared.Number.TheVariants.{Value, Bad}
 use Rattle.wire.specs.Base128.{number_most, more, number_in, number_at, shortest_in, shortest}
 use Rattle.wire.proofs.NumberLaws.{byte-here, behind, number-last, number_more, positive, short-last, short-more}
-
--- what groups of seven bits are worth, the lowest first
-unfoldable pub value_of : List ℕ → ℕ
-value_of [] = 0
-value_of (g ∷ gs) = g + 128 * value_of gs
-
--- their bytes: every group but the last with 128 added
-unfoldable pub form_of : List ℕ → List ℕ
-form_of [] = []
-form_of (g ∷ []) = g ∷ []
-form_of (g ∷ h ∷ gs) = (128 + g) ∷ form_of (h ∷ gs)
-
--- the groups of a number of 64 bits: one to ten, each of seven bits
-pub record IsForm (gs : List ℕ) : Type 0 where
-  pub some : 0 < length gs
-  pub few : length gs ≤ number_most
-  pub seven : All (λ (g : ℕ). g < 128) gs
-  pub fits : value_of gs < 2 ^ 64
+use Rattle.wire.specs.Forms.{value_of, form_of, IsForm}
 
 -- ---- read
 read-in : (n : ℕ) (gs : List ℕ) (s t : List ℕ) (at end : ℕ) → 0 < length gs → length gs ≤ n → All (λ (g : ℕ). g < 128) gs → value_of gs < 2 ^ 64

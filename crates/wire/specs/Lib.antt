@@ -2,3 +2,4 @@ pub mod Base128
 pub mod Fields
 pub mod Walk
 pub mod Written
+pub mod Forms

@@ -4,7 +4,8 @@ use Rattle.std.specs.Int.Count.{ones}
 use Rattle.laws.specs.Bytes.{bytes_of}
 use Rattle.name_list.specs.Laws.{few-listed}
 use Rattle.protocol.specs.Frame.{reply}
-use Rattle.rules.specs.Counting.{flash_count, count-is}
+use Rattle.rules.specs.Counting.{flash_count}
+use Rattle.rules.proofs.Counting.{count-is}
 use Rattle.state.specs.State.{state_of}
 use lib.Count.{ones-le}
 use Rattle.name_list.proofs.count.Goals as goal

@@ -42,16 +42,19 @@ use Rattle.rules.proofs.Laws.{respond-is, other-rows}
 use Rattle.rules.specs.Searches.{none_found}
 use Rattle.rules.proofs.Messages.{sent, ask_open, ask_commit, ask_close, commit-decoded, close-decoded}
 use Rattle.rules.proofs.Situations.{scan_name, letter_a, writing_row, writer, writer-sound, writer-row, writer-slot, writer-live, other_row, name-a}
-use Rattle.guarantees.proofs.Merging.{message}
+use Rattle.guarantees.specs.Merging.{message}
 use Rattle.guarantees.proofs.Keep.{swept-sound, respond-sound}
-use Rattle.guarantees.proofs.FlashPromise.{run}
+use Rattle.guarantees.specs.FlashPromise.{run}
 use Rattle.guarantees.proofs.Sessions.{asked_of}
 use Rattle.rules.proofs.Committed.{same_name, has_name, commits}
 use Rattle.scans.proofs.Scan.{scan_of, left_alone, asks_to_replace}
 use Rattle.guarantees.proofs.After.{own-part, own-reply, open_is}
 use Rattle.scans.proofs.Safe.{sweep-same}
-use Rattle.scans.proofs.Uploaded.{found-there, commit-keeps, Uploaded, upload-shown}
-use Rattle.scans.proofs.Left.{close-leaves, Gone, deleted-gone}
+use Rattle.scans.proofs.Uploaded.{found-there, upload-shown}
+use Rattle.scans.proofs.CommitKeeps.{commit-keeps}
+use Rattle.scans.specs.Uploaded.{Uploaded}
+use Rattle.scans.proofs.Left.{close-leaves, deleted-gone}
+use Rattle.scans.specs.Left.{Gone}
 
 -- ---- the messages
 -- the name `/scan/a`
