@@ -103,5 +103,6 @@ read-answers t m s session offset count e = go (is_sound s)
     full q = effect_of (framed (number_of q) (answered q t m s).0) (answered q t m s).1
 
     go : (y : Bool) → length (cond y (full (decoded m)) (unsound s)).response ≤ fields_at + min count read_most
-    go true = subst (λ (q : Request). length (full q).response ≤ fields_at + min count read_most) (sym e) (frame-few count (on_session (Id session) t (read offset count) s).0 (session-few session t offset count s))
+    go true = subst (λ (q : Request). length (full q).response ≤ fields_at + min count read_most) (sym e) (frame-few count (on_session (Id session) t
+        (read offset count) s).0 (session-few session t offset count s))
     go false = omega arith

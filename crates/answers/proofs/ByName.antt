@@ -80,7 +80,8 @@ delete-store-code : (n : List ℕ) (s : State) → code_after delete_command (de
 unfolding delete_store framed
 delete-store-code n s = go (slot_named n s)
   where
-    go : (o : Option ℕ) → code_after delete_command (some_or o (refused not_found, s) (λ (k : ℕ). none_or (row_found (OnBlob k) s) (refused busy, s) (done, (in_body (AtSlot k)).put free_slot s))) ≡ delete_held o s
+    go : (o : Option ℕ) → code_after delete_command (some_or o (refused not_found, s) (λ (k : ℕ). none_or (row_found (OnBlob k) s) (refused busy, s)
+        (done, (in_body (AtSlot k)).put free_slot s))) ≡ delete_held o s
     go none = refl
     go (some k) = none-code (code_after delete_command) (row_found (OnBlob k) s) (refused busy, s) (done, (in_body (AtSlot k)).put free_slot s) busy success refl refl
 
@@ -143,7 +144,8 @@ module _ (flags t : ℕ) (s : State) where
   held-code : (n : List ℕ) (o : Option ℕ) → store_flags flags ≡ true
       → code (whether o
       (λ (k : ℕ). none_or (row_found (OnBlob k) s) (refused busy, s) (some_or (free_row_in s) (refused no_room, s) (λ (r : ℕ). opened (AtSlot k) r k flags 1 t (held_slot flags (slot_at k s)) s)))
-      (cond (writes_with flags) (some_or (free_row_in s) (refused no_room, s) (λ (r : ℕ). some_or (free_slot_in s) (refused no_room, s) (λ (k : ℕ). opened (AtSlot k) r k flags 0 t (new_slot n) s))) (refused not_found, s)))
+      (cond (writes_with flags) (some_or (free_row_in s) (refused no_room, s) (λ (r : ℕ). some_or (free_slot_in s) (refused no_room, s)
+          (λ (k : ℕ). opened (AtSlot k) r k flags 0 t (new_slot n) s))) (refused not_found, s)))
       ≡ open_held o flags s
   held-code n none h =
       holds-code code (writes_with flags) _ (refused not_found, s) (cond (row_free s) (cond (slot_free s) success no_room) no_room) not_found

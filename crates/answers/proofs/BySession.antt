@@ -42,7 +42,8 @@ module _ (sub : ℕ) where
   abbrev code_of : Reply → ℕ
   code_of x = (framed sub x).0
 
-  placed-code : {B : Type 0} (capacity len offset n : ℕ) (r : Row) (b : B) (accepted : Out B) → code_of accepted.0 ≡ success → code_of (placed capacity len offset n r b accepted).0 ≡ place_code capacity len offset n
+  placed-code : {B : Type 0} (capacity len offset n : ℕ) (r : Row) (b : B) (accepted : Out B) → code_of accepted.0 ≡ success → code_of
+      (placed capacity len offset n r b accepted).0 ≡ place_code capacity len offset n
   unfolding placed framed
   placed-code capacity len offset n r b accepted e = go (leb offset len) (leb (offset + n) capacity)
     where
@@ -74,7 +75,8 @@ module _ (sub : ℕ) where
     kind_if v w x y z = cond v Image (cond w Hash (cond x Verify (cond y Update (cond z Cleanup no_kind))))
 
     write-flash-code : (v w x y z : Bool) (ws : List ℕ) (offset : ℕ)
-        → code_of (write_flash (kind_if v w x y z) t offset ws r b).0 ≡ cond v (place_code image_size b.image_len offset (length ws)) (cond w (place_code hash_size b.hash_len offset (length ws)) not_supported)
+        → code_of (write_flash (kind_if v w x y z) t offset ws r b).0 ≡ cond v (place_code image_size b.image_len offset (length ws))
+            (cond w (place_code hash_size b.hash_len offset (length ws)) not_supported)
     unfolding write_flash framed
     write-flash-code true w x y z ws offset = placed-code image_size b.image_len offset (length ws) r b _ refl
     write-flash-code false true x y z ws offset = placed-code hash_size b.hash_len offset (length ws) r b _ refl
@@ -172,7 +174,8 @@ module _ (t i : ℕ) (m : List ℕ) (s : State) (h : is_sound s ≡ true) (l : L
   unfolding on_store on_flash kind_of
   commit-code len rest =
       row-code commit_command i t (commit len rest) s _ _ (commit-store-code commit_command t r b (commit_fits len rest) (writes r) refl)
-      (commit-flash-code commit_command t r f (commit_fits len rest) (eqb (blob i s) image_blob) (eqb (blob i s) hash_blob) (eqb (blob i s) verify_blob) (eqb (blob i s) update_blob) (eqb (blob i s) cleanup_blob))
+      (commit-flash-code commit_command t r f (commit_fits len rest) (eqb (blob i s) image_blob) (eqb (blob i s) hash_blob) (eqb (blob i s)
+          verify_blob) (eqb (blob i s) update_blob) (eqb (blob i s) cleanup_blob))
       ∙ inside (on_slot i s) (commit_fits len rest) _ _
       ∙ ap (λ (y : Bool). cond y (cond (on_slot i s) (cond (writes r) success not_supported) (cond (on_upload i s) not_supported success)) invalid) (fits-is len rest)
     where
@@ -206,7 +209,8 @@ module _ (t i : ℕ) (m : List ℕ) (s : State) (h : is_sound s ≡ true) (l : L
   unfolding answered
   session-codes = record {
     of-read = λ (offset n : ℕ) (d : decoded m ≡ Read (ident i s) offset n). code_is (Read (ident i s) offset n) (read offset n) _ d refl (read-code offset n);
-    of-write = λ (offset start : ℕ) (d : decoded m ≡ Write (ident i s) offset start). code_is (Write (ident i s) offset start) (write offset (drop start m)) _ d refl (write-code offset (drop start m));
+    of-write = λ (offset start : ℕ) (d : decoded m ≡ Write (ident i s) offset start). code_is (Write (ident i s) offset start) (write offset
+        (drop start m)) _ d refl (write-code offset (drop start m));
     of-commit = λ (len rest : ℕ) (d : decoded m ≡ Commit (ident i s) len rest). code_is (Commit (ident i s) len rest) (commit len rest) _ d refl (commit-code len rest);
     of-close = λ (d : decoded m ≡ Close (ident i s)). code_is (Close (ident i s)) close _ d refl close-code;
     of-session-stat = λ (d : decoded m ≡ SessionStat (ident i s)). code_is (SessionStat (ident i s)) stat _ d refl stat-code;

@@ -136,7 +136,8 @@ running-flash i s g l e = go (dec_lt (blob i s) slot_count)
   where
     go : Dec (blob i s < slot_count) → slot_count ≤ blob i s
     go (yes low) = absurd (
-        let f : StoreFacts (blob i s) (ident i s) (blob i s) (word_of ((in_row i).get s)) (slot_at (blob i s) s) = subst (λ (p : Place). Session p ((in_row i).get s) ((in_body p).get s)) (place-slot (blob i s) low) (g.session i l) in
+        let f : StoreFacts (blob i s) (ident i s) (blob i s) (word_of ((in_row i).get s)) (slot_at (blob i s) s) = subst (λ (p : Place). Session p
+            ((in_row i).get s) ((in_body p).get s)) (place-slot (blob i s) low) (g.session i l) in
         let z = f.no-status in omega arith)
     go (no n) = omega arith
 
@@ -157,7 +158,8 @@ module _ (good : Bool) (s : State) (h : is_sound s ≡ true) where
   abbrev g : Sound s
   g = sound-of-test s h
 
-  ends : (i : ℕ) → Live i s → status_of ((in_row i).get s) ≡ running → on_flash (kind_of (blob i s)) 0 (end_job good) ((in_row i).get s) s.flash_group ≡ (done, (with_status (cond good succeeded failed) ((in_row i).get s), s.flash_group))
+  ends : (i : ℕ) → Live i s → status_of ((in_row i).get s) ≡ running → on_flash (kind_of (blob i s)) 0 (end_job good) ((in_row i).get s) s.flash_group
+      ≡ (done, (with_status (cond good succeeded failed) ((in_row i).get s), s.flash_group))
   unfolding on_flash job_ends
   ends i l e = ap (λ (y : Bool). job_ends y good ((in_row i).get s) s.flash_group) (eq-eqb (status_of ((in_row i).get s)) running e)
 

@@ -119,7 +119,8 @@ module _ (t : ℕ) (r : Row) (b : FlashBody) (four : length r.words ≡ row_word
   flash-runs k (end_job good) = job-runs (eqb (status_of r) running) good
 
 -- a store session has no job, before and after
-part-runs : (p : Place) (t : ℕ) (c : Command) (r : Row) (b : Body p) → length r.words ≡ row_words → Proper p r (on_part p t c r b).1.0 b (on_part p t c r b).1.1 → status_of (on_part p t c r b).1.0 ≡ running
+part-runs : (p : Place) (t : ℕ) (c : Command) (r : Row) (b : Body p) → length r.words ≡ row_words → Proper p r (on_part p t c r b).1.0 b
+    (on_part p t c r b).1.1 → status_of (on_part p t c r b).1.0 ≡ running
     → Or (status_of r ≡ running) (Starts (kind_of (blob_of r)) c)
 part-runs (AtSlot k) t c r b four pr h = absurd (go (ℕ_discrete (on_part (AtSlot k) t c r b).1.0.used 1))
   where
@@ -219,7 +220,8 @@ module _ (t i : ℕ) (s : State) (g : Sound s) where
       (λ (r k : ℕ) f _ _ e _. opened-quiet (AtSlot k) r k flags 0 (new_slot n) (flags-small flags f) (omega arith) e)
 
   flash-quiet : (k : FlashKind) (flags : ℕ) → After (open_flash k flags t s)
-  flash-quiet k flags = open-flash-has After s (λ _ _ h. h) k flags t (λ (r : ℕ) _ _ _ e. opened-quiet AtFlash r (flash_number k) write_only 0 (opened_flash k s.flash_group) (omega arith) (omega arith) e)
+  flash-quiet k flags = open-flash-has After s (λ _ _ h. h) k flags t (λ (r : ℕ) _ _ _ e. opened-quiet AtFlash r (flash_number k) write_only 0
+      (opened_flash k s.flash_group) (omega arith) (omega arith) e)
 
   open-quiet : (m : List ℕ) (b : Blob) (flags : ℕ) → After (open_blob b flags t m s)
   unfolding open_blob
@@ -293,7 +295,8 @@ module _ (t i : ℕ) (m : List ℕ) (s : State) (g : Sound s) where
   begins (Refused code) h = this h
 
 -- A JOB THAT RUNS AFTER A MESSAGE AND DID NOT BEFORE WAS STARTED BY THAT MESSAGE, A COMMIT OF ITS OWN SESSION ON VERIFY OR UPDATE (rules 12.4 and 12.5)
-pub only-commit-starts : (t i : ℕ) (m : List ℕ) (s : State) → is_sound s ≡ true → status_of ((in_row i).get s) ≢ running → status_of ((in_row i).get (respond t m s).state) ≡ running → Own i s (decoded m)
+pub only-commit-starts : (t i : ℕ) (m : List ℕ) (s : State) → is_sound s ≡ true → status_of ((in_row i).get s) ≢ running → status_of
+    ((in_row i).get (respond t m s).state) ≡ running → Own i s (decoded m)
 only-commit-starts t i m s h n r = go (begins t i m s (sound-of-test s h) (decoded m) (sym (ap (λ (o : Effect). status_of ((in_row i).get o.state)) (respond-is t m s h)) ∙ r))
   where
     go : Or (status_of ((in_row i).get s) ≡ running) (Own i s (decoded m)) → Own i s (decoded m)

@@ -11,7 +11,8 @@ use Rattle.laws.specs.Bytes.{little, bytes_of, same, same_refl, first_zero, padd
 use Rattle.laws.specs.Find.{first_some}
 use Rattle.laws.specs.Ranges.{part}
 use Rattle.crc.specs.Crc.{crc_from, byte_step, shifts, shift}
-use Rattle.protocol.specs.Numbers.{success, wrong_length, not_supported, not_found, invalid, count_command, read_command, delete_command, stat_command, row_count, slot_count, name_size, slot_size, read_most, write_only, verify_blob, state_committed}
+use Rattle.protocol.specs.Numbers.{success, wrong_length, not_supported, not_found, invalid, count_command, read_command, delete_command}
+use Rattle.protocol.specs.Numbers.{stat_command, row_count, slot_count, name_size, slot_size, read_most, write_only, verify_blob, state_committed}
 use Rattle.protocol.specs.Numbers.{running, succeeded, failed, image_size, hash_size}
 use Rattle.protocol.proofs.Sizes.{slot-size}
 use Rattle.protocol.specs.Names.{base, flash_name, flash_number, flash_folder, flash_word, name_form, blob_named, store_name, store_field, alnum, kind_of}
@@ -163,7 +164,8 @@ unfoldable pub scanned : State
 scanned = (in_body (AtSlot 0)).put scan_slot fresh
 
 scan-fits : FitsSlot scan_slot
-scan-fits = record { name-long = padded-length name_size moreau; committed-long = length-replicate slot_size 0; staged-long = length-replicate slot_size 0; held-flag = omega arith; mark-flag = omega arith }
+scan-fits = record { name-long = padded-length name_size moreau; committed-long = length-replicate slot_size 0; staged-long = length-replicate
+    slot_size 0; held-flag = omega arith; mark-flag = omega arith }
 
 scan-idle : StoreIdle scan_slot
 scan-idle = record { held-marked = refl; idle-committed = fits-100; idle-staged = refl; held-name = λ _. moreau-name; free-zero = λ (h : ◌≡◌ {A = ℕ} 1 0). absurd (omega arith) }
@@ -199,7 +201,8 @@ scanned-good = change-sound fresh scanned row_count (AtSlot 0) fresh-good (recor
   now-id = λ (l : Live row_count scanned) (r : ℕ) (v : Live r fresh) (n : r ≢ row_count). absurd (past l.0);
   now-free = λ (h : row_count < row_count) (u : ((in_row row_count).get scanned).used ≡ 0). absurd (past h);
   now-loose = λ _. subst StoreIdle (sym scan-slot) scan-idle;
-  now-named = λ (j l : ℕ) (e : AtSlot 0 ≡ AtSlot j) (hj : j < slot_count) (hl : l < slot_count) (n : j ≢ l) (a : (slot_at j scanned).held ≡ 1) (u : (slot_at l fresh).held ≡ 1). absurd (let z = slot-free l in omega arith);
+  now-named = λ (j l : ℕ) (e : AtSlot 0 ≡ AtSlot j) (hj : j < slot_count) (hl : l < slot_count) (n : j ≢ l) (a : (slot_at j scanned).held ≡ 1)
+      (u : (slot_at l fresh).held ≡ 1). absurd (let z = slot-free l in omega arith);
 })
 
 scan-named : slot_named moreau scanned ≡ some 0
@@ -286,7 +289,8 @@ met = record {
   flash-read = λ (t : ℕ). (session-codes t 0 (ask_read 0 0 58) (verifying running) (verifying-sound running (omega arith)) (verifying-live running (omega arith))).of-read 0 58
       (read-decoded 0 0 58 (omega arith) (omega arith) (omega arith) ∙ ap (λ (x : ℕ). Read x 0 58) (sym (ap id_of (verifying-row running (omega arith)))))
       ∙ ap (λ (r : Row). cond (ltb (blob_of r) slot_count) success not_supported) (verifying-row running (omega arith));
-  nobody = λ (t : ℕ). absent-code t (ask_session_stat 0) fresh fresh-sound 0 (λ (i : ℕ) (l : Live i fresh). absurd (no-session i l)) [] (ap (λ (q : Request). of_session (number_of q)) (stat-decoded 0 (omega arith)))
+  nobody = λ (t : ℕ). absent-code t (ask_session_stat 0) fresh fresh-sound 0 (λ (i : ℕ) (l : Live i fresh). absurd (no-session i l)) []
+      (ap (λ (q : Request). of_session (number_of q)) (stat-decoded 0 (omega arith)))
       (ap values_of (stat-decoded 0 (omega arith)));
   nameless = λ (t : ℕ). wrong-form t fields_at (ask_stat []) fresh fresh-sound nameless-frame (in-stat refl) nameless-form;
 }

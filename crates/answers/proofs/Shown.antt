@@ -61,7 +61,8 @@ module _ (sub x size : ℕ) where
   length-there = refl
 
 -- an answer whose reply is these fields
-shows : (sub x size : ℕ) (o : Effect) → x < sixteen_bits → size < thirty_two_bits → o.code ≡ (framed sub (reply (stat_fields x size))).0 → o.response ≡ (framed sub (reply (stat_fields x size))).1 → ShowsName x size o
+shows : (sub x size : ℕ) (o : Effect) → x < sixteen_bits → size < thirty_two_bits → o.code ≡ (framed sub (reply (stat_fields x size))).0 → o.response
+    ≡ (framed sub (reply (stat_fields x size))).1 → ShowsName x size o
 shows sub x size o hx hs c r =
     let f = reply-frame sub (stat_fields x size) in
     let e : o.response ≡ sent sub (stat_fields x size) = r ∙ f.1 in record {
@@ -99,7 +100,8 @@ flash-small b s g = go (eqb b image_blob) (eqb b hash_blob)
 session-small : (i : ℕ) (s : State) → Sound s → Live i s → session_size i s < thirty_two_bits
 session-small i s g l = go (ltb (blob i s) slot_count) refl
   where
-    store : (y : Bool) → StoreFacts (blob i s) (ident i s) (blob i s) (word_of ((in_row i).get s)) (slot_at (blob i s) s) → cond y (slot_at (blob i s) s).staged_len (slot_at (blob i s) s).committed_len < thirty_two_bits
+    store : (y : Bool) → StoreFacts (blob i s) (ident i s) (blob i s) (word_of ((in_row i).get s)) (slot_at (blob i s) s) → cond y
+        (slot_at (blob i s) s).staged_len (slot_at (blob i s) s).committed_len < thirty_two_bits
     store true f = let h = f.staged-fits in let z = slot-size in omega arith
     store false f = let h = f.committed-fits in let z = slot-size in omega arith
 
@@ -151,7 +153,8 @@ session-stat (WriteMeta session) id n v = absurd (omega arith)
 session-stat (Refused code) id n v = absurd (let z : ◌≡◌ {A = ℕ} 0 1 = cc in omega arith)
 
 -- SESSIONSTAT OF EVERY SESSION SHOWS ITS BITS AND ITS SIZE (rules 15.4 and 15.5)
-pub session-stat-shows : (t i : ℕ) (m : List ℕ) (s : State) → is_sound s ≡ true → Live i s → number_of (decoded m) ≡ session_stat_command → values_of (decoded m) ≡ ident i s ∷ [] → ShowsSession i s (respond t m s)
+pub session-stat-shows : (t i : ℕ) (m : List ℕ) (s : State) → is_sound s ≡ true → Live i s → number_of (decoded m) ≡ session_stat_command → values_of
+    (decoded m) ≡ ident i s ∷ [] → ShowsSession i s (respond t m s)
 unfolding answered
 session-stat-shows t i m s h l n v =
     let g = sound-of-test s h in
@@ -232,7 +235,8 @@ module _ (t : ℕ) (m : List ℕ) (s : State) (h : is_sound s ≡ true) where
       session-shown i stat_command s g l (respond t m s) x.0 x.1
 
   -- WITHOUT A SESSION A LISTED ONE SHOWS STATE 0 AND ITS SIZE (rule 15.8)
-  pub stat-shows-flash : (k : FlashKind) → decoded m ≡ Stat (Flash k) → flash_listed k s.flash_group.phase ≡ true → NoneOn (flash_number k) s → ShowsName 0 (flash_size (flash_number k) s.flash_group) (respond t m s)
+  pub stat-shows-flash : (k : FlashKind) → decoded m ≡ Stat (Flash k) → flash_listed k s.flash_group.phase ≡ true → NoneOn (flash_number k) s →
+      ShowsName 0 (flash_size (flash_number k) s.flash_group) (respond t m s)
   unfolding stat_blob
   stat-shows-flash k d li n =
       let x = replied (Flash k) (reply (stat_fields 0 (flash_size (flash_number k) s.flash_group))) d (kind-says k none s li (none-on (flash_number k) n)) in

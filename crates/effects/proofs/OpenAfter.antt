@@ -75,7 +75,8 @@ module _ (t flags : ℕ) (b : Blob) (m : List ℕ) (s : State) (h : is_sound s �
     ap (λ (o : Effect). o.state.next) is_open ∙ g.1 ∙ ap after given_is,
   )
 
-opened-stages : (r k t : ℕ) (x : State) → Sound x → (r < row_count) × (((in_row r).get x).used ≡ 0) → k < slot_count → Staged k x (opened (AtSlot k) r k read_write 1 t (held_slot read_write (slot_at k x)) x).1
+opened-stages : (r k t : ℕ) (x : State) → Sound x → (r < row_count) × (((in_row r).get x).used ≡ 0) → k < slot_count → Staged k x
+    (opened (AtSlot k) r k read_write 1 t (held_slot read_write (slot_at k x)) x).1
 unfolding opened
 opened-stages r k t x g fr low = record {
   bytes = ap (λ (c : Row × Slot). c.1.staged_bytes) both-are;

@@ -47,7 +47,8 @@ module _ (s : State) (g : Sound s) (r : ℕ) (l : Live r s) (t : ℕ) (c : Comma
       out : Out Slot
       out = on_store t c ((in_row r).get s) (slot_at (blob r s) s)
 
-      fine : Proper (AtSlot (blob r s)) ((in_row r).get s) (on_store t c ((in_row r).get s) (slot_at (blob r s) s)).1.0 (slot_at (blob r s) s) (on_store t c ((in_row r).get s) (slot_at (blob r s) s)).1.1
+      fine : Proper (AtSlot (blob r s)) ((in_row r).get s) (on_store t c ((in_row r).get s) (slot_at (blob r s) s)).1.0 (slot_at (blob r s) s)
+          (on_store t c ((in_row r).get s) (slot_at (blob r s) s)).1.1
       fine = proper (AtSlot (blob r s)) t c ((in_row r).get s) (slot_at (blob r s) s) (row-view-fits r s l.0 g.shape) (body-view-fits (AtSlot (blob r s)) s h g.shape) l.1
           (subst (λ (p : Place). Session p ((in_row r).get s) ((in_body p).get s)) on-slot (g.session r l))
 

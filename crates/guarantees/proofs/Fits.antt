@@ -62,7 +62,8 @@ module _ (r : Row) (b : Slot) where
   short_write : (y : Bool) (ws : List ℕ) (t i : ℕ) → Short (write_store y t i ws r b).0
   unfolding write_store
   short_write true ws t i =
-      placed-has slot_size b.staged_len i (length ws) r b (stored t i ws r b) (λ (o : Out Slot). Short o.0) (λ (h : i ≤ b.staged_len) (l : i + length ws ≤ slot_size). short-stored ws t i) (λ (code : ℕ). tt)
+      placed-has slot_size b.staged_len i (length ws) r b (stored t i ws r b) (λ (o : Out Slot). Short o.0) (λ (h : i ≤ b.staged_len)
+          (l : i + length ws ≤ slot_size). short-stored ws t i) (λ (code : ℕ). tt)
   short_write false ws t i = tt
 
   short-writing : (y : Bool) (t : ℕ) → Short (commit_writing y t r b).0
@@ -92,7 +93,8 @@ module _ (r : Row) (b : Slot) where
 module _ (r : Row) (b : FlashBody) where
   short-flash-write : (k : FlashKind) (ws : List ℕ) (t i : ℕ) → Short (write_flash k t i ws r b).0
   unfolding write_flash
-  short-flash-write Image ws t i = placed-has image_size b.image_len i (length ws) r b _ (λ (o : Out FlashBody). Short o.0) (λ (h : i ≤ b.image_len) (l : i + length ws ≤ image_size). tt) (λ (code : ℕ). tt)
+  short-flash-write Image ws t i = placed-has image_size b.image_len i (length ws) r b _ (λ (o : Out FlashBody). Short o.0) (λ (h : i ≤ b.image_len)
+      (l : i + length ws ≤ image_size). tt) (λ (code : ℕ). tt)
   short-flash-write Hash ws t i = placed-has hash_size b.hash_len i (length ws) r b _ (λ (o : Out FlashBody). Short o.0) (λ (h : i ≤ b.hash_len) (l : i + length ws ≤ hash_size). tt) (λ (code : ℕ). tt)
   short-flash-write Verify ws t i = tt
   short-flash-write Update ws t i = tt
@@ -265,7 +267,8 @@ at-short (n ∷ ns) zero h = h.0
 at-short (n ∷ ns) (suc i) h = at-short ns i h.1
 
 short-enumerated : (i : ℕ) (s : State) → Short (enumerated i s)
-short-enumerated i s = cond_has Short (ltb i (count s)) (reply (get_or (listed s) i [] ++ (0 ∷ []))) (refused out_of_range) (rw length-append (let h = at-short (listed s) i (names-listed s) in let e = name-size in omega arith)) tt
+short-enumerated i s = cond_has Short (ltb i (count s)) (reply (get_or (listed s) i [] ++ (0 ∷ []))) (refused out_of_range) (rw length-append
+    (let h = at-short (listed s) i (names-listed s) in let e = name-size in omega arith)) tt
 
 -- the reply to every request is short
 pub short-answered : (q : Request) (t : ℕ) (m : List ℕ) (s : State) → Short (answered q t m s).0

@@ -15,7 +15,8 @@ use Rattle.laws.specs.All.{and-true, Or, this, that}
 use Rattle.laws.specs.Find.{is_some}
 use Rattle.laws.specs.Bits.{bit, bit-zero}
 use Rattle.laws.specs.Ranges.{part}
-use Rattle.protocol.specs.Numbers.{row_words, untried, open_command, row_count, slot_count, success, status_unit, not_found, busy, running, succeeded, image_size, hash_size, image_blob, hash_blob, verify_blob, update_blob, read_only, cleanup_blob}
+use Rattle.protocol.specs.Numbers.{row_words, untried, open_command, row_count, slot_count, success, status_unit, not_found, busy}
+use Rattle.protocol.specs.Numbers.{running, succeeded, image_size, hash_size, image_blob, hash_blob, verify_blob, update_blob, read_only, cleanup_blob}
 use Rattle.protocol.specs.Numbers.{read_write, write_only, failed}
 use Rattle.protocol.specs.Names.{kind_of, flash_number, no_kind}
 use Rattle.protocol.specs.Decode.{decoded, number_of}
@@ -403,7 +404,8 @@ module _ (x : State) (g : Sound x) (r : ℕ) (fr : (r < row_count) × (((in_row 
   image-stands body e quiet (this h) = let z : ◌≡◌ {A = ℕ} 0 1 = cc in omega arith
   image-stands body e quiet (that h) = go (new-row-either AtFlash body h.row (ℕ_discrete h.row r) h.live)
     where
-      go : Or ((Live h.row x) × ((in_row h.row).get (opened AtFlash r b flags clean t body x).1 ≡ (in_row h.row).get x)) (status_of ((in_row h.row).get (opened AtFlash r b flags clean t body x).1) ≡ untried) → ⊥
+      go : Or ((Live h.row x) × ((in_row h.row).get (opened AtFlash r b flags clean t body x).1 ≡ (in_row h.row).get x))
+          (status_of ((in_row h.row).get (opened AtFlash r b flags clean t body x).1) ≡ untried) → ⊥
       go (this f) = no-flash-row x quiet h.row f.0 (let z : blob h.row x ≡ verify_blob = sym (ap blob_of f.1) ∙ h.on-verify in omega arith)
       go (that f) = let z = h.status-is in omega arith
 
@@ -640,7 +642,8 @@ open_row k s h = go (row_found (OnBlob (flash_number k)) s) refl h
     go none e q = absurd (true≢false (sym q))
     go (some x) e q = let a = on_row_lem s (flash_number k) x e in (x, a.0, a.1)
 
-not-together : (j k : FlashKind) (s : State) → is_sound s ≡ true → flash_number j ≢ flash_number k → slot_count ≤ flash_number j → slot_count ≤ flash_number k → is_open j s ≡ true → is_open k s ≡ true → ⊥
+not-together : (j k : FlashKind) (s : State) → is_sound s ≡ true → flash_number j ≢ flash_number k → slot_count ≤ flash_number j → slot_count ≤
+    flash_number k → is_open j s ≡ true → is_open k s ≡ true → ⊥
 not-together j k s h n hj hk a b =
     let x = open_row j s a in
     let y = open_row k s b in
@@ -659,13 +662,15 @@ pub never-together : (es : List Event) → (is_open Image (run fresh es) || is_o
 never-together es =
     let s = run fresh es in
     let h : is_sound s ≡ true = run_sound es fresh fresh-sound in
-    both-not (is_open Image s) (is_open Hash s) (is_open Verify s) (not-together Image Verify s h (omega arith) (omega arith) (omega arith)) (not-together Hash Verify s h (omega arith) (omega arith) (omega arith))
+    both-not (is_open Image s) (is_open Hash s) (is_open Verify s) (not-together Image Verify s h (omega arith) (omega arith) (omega arith))
+        (not-together Hash Verify s h (omega arith) (omega arith) (omega arith))
 
 watched : (es : List Event) (v : Bool) (s : State) → verified_since v s es ≡ true → Or ((v ≡ true) × NeverOpens s es) (VerifiedIn s es)
 watched [] v s h = this (h, tt)
 watched (e ∷ es) v s h = go (watched es (watch v s e) (next s e) h)
   where
-    here : (o y : Bool) → opens_image s e ≡ o → verifies_image s e ≡ y → cond o false (cond y true v) ≡ true → NeverOpens (next s e) es → Or ((v ≡ true) × NeverOpens s (e ∷ es)) (VerifiedIn s (e ∷ es))
+    here : (o y : Bool) → opens_image s e ≡ o → verifies_image s e ≡ y → cond o false (cond y true v) ≡ true → NeverOpens (next s e) es → Or
+        ((v ≡ true) × NeverOpens s (e ∷ es)) (VerifiedIn s (e ∷ es))
     here true y p q w n = absurd (true≢false (sym w))
     here false true p q w n = that (record { earlier = []; event = e; later = es; is-history = refl; verifies = q; not_opened = n })
     here false false p q w n = this (w, (p, n))

@@ -112,7 +112,8 @@ held-sound flags t r k s g fl fr fs quiet = go fl
     marked : (slot_at k s).mark ≡ 1
     marked = sym idle.held-marked ∙ fs.1
 
-    facts : (f : ℕ) (sm : fresh_id s < sixteen_bits) (d : Slot) → store_flags (flags_in (word_with f 0 1)) ≡ true → status_in (word_with f 0 1) ≡ 0 → word_with f 0 1 < word_limit → clean_in (word_with f 0 1) ≡ 1
+    facts : (f : ℕ) (sm : fresh_id s < sixteen_bits) (d : Slot) → store_flags (flags_in (word_with f 0 1)) ≡ true → status_in (word_with f 0 1) ≡ 0 →
+        word_with f 0 1 < word_limit → clean_in (word_with f 0 1) ≡ 1
         → d.held ≡ 1 → d.mark ≡ 1 → d.committed_len ≤ slot_size → d.staged_len ≤ slot_size → (writing_in (word_with f 0 1) ≡ 0 → d.staged_len ≡ 0) → d.name ≡ (slot_at k s).name
         → StoreFacts k (fresh_id s) k (word_with f 0 1) d
     facts f sm d a b c e hd mk cf sf us nm = record {
@@ -147,7 +148,8 @@ held-sound flags t r k s g fl fr fs quiet = go fl
     writer : Sound (opened (AtSlot k) r k read_write 1 t (held_slot read_write (slot_at k s)) s).1
     writer = opened-sound s g r fr.0 fr.1 (AtSlot k) k read_write 1 t copy (place-slot k fs.0) lone
         (fs.0, record { name-long = fit.name-long; committed-long = fit.committed-long; staged-long = fit.committed-long; held-flag = fit.held-flag; mark-flag = fit.mark-flag })
-        (λ (sm : fresh_id s < sixteen_bits). facts read_write sm copy store_writes refl (omega arith) refl fs.1 marked idle.idle-committed idle.idle-committed (λ (z : ◌≡◌ {A = ℕ} 1 0). absurd (omega arith)) refl)
+        (λ (sm : fresh_id s < sixteen_bits). facts read_write sm copy store_writes refl (omega arith) refl fs.1 marked idle.idle-committed
+            idle.idle-committed (λ (z : ◌≡◌ {A = ℕ} 1 0). absurd (omega arith)) refl)
         others
 
     go : Or (flags ≡ read_only) (flags ≡ read_write) → Sound (opened (AtSlot k) r k flags 1 t (held_slot flags (slot_at k s)) s).1
@@ -165,11 +167,14 @@ writing flags (that e) w = e
 open-store-sound : (n : List ℕ) (flags t : ℕ) (s : State) → Sound s → store_name n ≡ true → Sound (open_store n flags t s).1
 open-store-sound n flags t s g nm = open-store-has Kept s (λ _ _. g) n flags t held new
   where
-    held : (r k : ℕ) → store_flags flags ≡ true → slot_named n s ≡ some k → row_found (OnBlob k) s ≡ none → free_row_in s ≡ some r → Kept (opened (AtSlot k) r k flags 1 t (held_slot flags (slot_at k s)) s)
+    held : (r k : ℕ) → store_flags flags ≡ true → slot_named n s ≡ some k → row_found (OnBlob k) s ≡ none → free_row_in s ≡ some r → Kept
+        (opened (AtSlot k) r k flags 1 t (held_slot flags (slot_at k s)) s)
     held r k f e quiet i = let a = named-slot n s k e in held-sound flags t r k s g (store-flags flags f) (free-row s r i) (a.0, a.1) quiet
 
-    new : (r k : ℕ) → store_flags flags ≡ true → slot_named n s ≡ none → writes_with flags ≡ true → free_row_in s ≡ some r → free_slot_in s ≡ some k → Kept (opened (AtSlot k) r k flags 0 t (new_slot n) s)
-    new r k f e w i j = subst (λ (x : ℕ). Kept (opened (AtSlot k) r k x 0 t (new_slot n) s)) (sym (writing flags (store-flags flags f) w)) (new-sound n t r k s g nm e (free-row s r i) (free-slot s k j))
+    new : (r k : ℕ) → store_flags flags ≡ true → slot_named n s ≡ none → writes_with flags ≡ true → free_row_in s ≡ some r → free_slot_in s ≡ some k →
+        Kept (opened (AtSlot k) r k flags 0 t (new_slot n) s)
+    new r k f e w i j = subst (λ (x : ℕ). Kept (opened (AtSlot k) r k x 0 t (new_slot n) s)) (sym (writing flags (store-flags flags f) w))
+        (new-sound n t r k s g nm e (free-row s r i) (free-slot s k j))
 
 -- ---- Open, of a flash name
 -- a flash name's number is its own
@@ -189,7 +194,8 @@ number-high Verify = (omega arith, omega arith)
 number-high Update = (omega arith, omega arith)
 number-high Cleanup = (omega arith, omega arith)
 
-opened-sized : (k : FlashKind) (b : FlashBody) → (length b.image ≡ image_size) × (length b.hash ≡ hash_size) → (length (opened_flash k b).image ≡ image_size) × (length (opened_flash k b).hash ≡ hash_size)
+opened-sized : (k : FlashKind) (b : FlashBody) → (length b.image ≡ image_size) × (length b.hash ≡ hash_size) → (length (opened_flash k b).image ≡
+    image_size) × (length (opened_flash k b).hash ≡ hash_size)
 unfolding opened_flash
 opened-sized Image b h = (length-replicate {A = ℕ} image_size 0, h.1)
 opened-sized Hash b h = (h.0, length-replicate {A = ℕ} hash_size 0)

@@ -61,7 +61,8 @@ early-asked m = (((((((((((tt, tt), tt), with-name _ _ (λ b. tt)), tt), tt), tt
     with-name at f e = named-case Early at m f (omega arith) (λ _. e _)
 
 early-decoded : (m : List ℕ) → Early (decoded m)
-early-decoded m = decoded-case Early m (omega arith) (omega arith) (omega arith) (λ _ (c : subcommand m ≤ write_meta_command) _. each-command (λ (sub : ℕ). Early (asked sub m)) (subcommand m) (early-asked m) c)
+early-decoded m = decoded-case Early m (omega arith) (omega arith) (omega arith) (λ _ (c : subcommand m ≤ write_meta_command) _. each-command
+    (λ (sub : ℕ). Early (asked sub m)) (subcommand m) (early-asked m) c)
 
 -- A MESSAGE THAT IS REFUSED BEFORE ITS COMMAND'S OWN ORDER MAY STAND IN ANY SESSION'S LIST (rule 21.8)
 pub refused-anywhere : (s : State) (i t : ℕ) (m : List ℕ) (code : ℕ) → Live i s → decoded m ≡ refused_with code → Mine s i (message t m)
@@ -145,7 +146,8 @@ pub proper-row : (s : State) → Sound s → (i : ℕ) → Live i s → (t : ℕ
     → Proper (place_of (blob i s)) ((in_row i).get s) (on_part (place_of (blob i s)) t c ((in_row i).get s) ((in_body (place_of (blob i s))).get s)).1.0 ((in_body (place_of (blob i s))).get s)
     (on_part (place_of (blob i s)) t c ((in_row i).get s) ((in_body (place_of (blob i s))).get s)).1.1
 proper-row s g i l t c =
-    proper (place_of (blob i s)) t c ((in_row i).get s) ((in_body (place_of (blob i s))).get s) (row-view-fits i s l.0 g.shape) (body-view-fits (place_of (blob i s)) s (in-range (blob i s)) g.shape) l.1 (g.session i l)
+    proper (place_of (blob i s)) t c ((in_row i).get s) ((in_body (place_of (blob i s))).get s) (row-view-fits i s l.0 g.shape) (body-view-fits
+        (place_of (blob i s)) s (in-range (blob i s)) g.shape) l.1 (g.session i l)
 
 -- a command on a live row keeps the state sound
 pub on-row-sound : (s : State) → Sound s → (i : ℕ) → Live i s → (t : ℕ) (c : Command) → Sound (on_row i t c s).1

@@ -155,7 +155,8 @@ module _ (n t u i offset : ℕ) (ws : List ℕ) (s : State) (h : Writes n i s) (
       ∙ read-after-write t u offset r b row_fits.four body-fits.1.staged-long h.writing ws (omega arith) taken-done
 
   then-read : respond u (ask_read (ident i s) offset (length ws)) s' ≡ effect_of (framed read_command (on_row i u (read offset (length ws)) s').0) (on_row i u (read offset (length ws)) s').1
-  then-read = subst (λ (id : ℕ). respond u (ask_read id offset (length ws)) s' ≡ effect_of (framed read_command (on_row i u (read offset (length ws)) s').0) (on_row i u (read offset (length ws)) s').1) id-now
+  then-read = subst (λ (id : ℕ). respond u (ask_read id offset (length ws)) s' ≡ effect_of (framed read_command (on_row i u (read offset (length ws))
+      s').0) (on_row i u (read offset (length ws)) s').1) id-now
       (read_asked u i offset (length ws) s' good-now live_now (let z = slot-size in omega arith) (omega arith))
 
   -- A WRITE THAT FITS IS ACCEPTED, AND A READ OF THE SAME BYTES AFTER IT SHOWS THEM, on whole messages
@@ -219,7 +220,8 @@ stat-then-close t u i s h l n = (
     row_now : (in_row i).get s₁ ≡ stamped t ((in_row i).get s)
     row_now =
         row_new s g i l (on_part (place_of (blob i s)) t stat ((in_row i).get s) ((in_body (place_of (blob i s))).get s)).1.0
-        (on_part (place_of (blob i s)) t stat ((in_row i).get s) ((in_body (place_of (blob i s))).get s)).1.1 fine ∙ (stat-on (place_of (blob i s)) t ((in_row i).get s) ((in_body (place_of (blob i s))).get s)).1
+        (on_part (place_of (blob i s)) t stat ((in_row i).get s) ((in_body (place_of (blob i s))).get s)).1.1 fine ∙ (stat-on (place_of (blob i s)) t
+            ((in_row i).get s) ((in_body (place_of (blob i s))).get s)).1
 
     live_now : Live i s₁
     live_now = (l.0, ap (λ (x : Row). x.used) row_now ∙ l.1)

@@ -91,7 +91,8 @@ Accepted r = number_of r ≤ write_meta_command
 abbrev Right : List ℕ → ℕ → Type 0
 Right m sub = Accepted (asked sub m) → Says sub m (asked sub m)
 
-with-name : (sub at : ℕ) (m : List ℕ) (f : Blob → Request) → (name_form (drop at m) ≡ true → Says sub m (f (blob_named at (text (drop at m))))) → Accepted (with_name at m f) → Says sub m (with_name at m f)
+with-name : (sub at : ℕ) (m : List ℕ) (f : Blob → Request) → (name_form (drop at m) ≡ true → Says sub m (f (blob_named at (text (drop at m))))) →
+    Accepted (with_name at m f) → Says sub m (with_name at m f)
 with-name sub at m f h = named-case (λ (r : Request). Accepted r → Says sub m r) at m f (λ a. absurd (omega arith)) (λ (n : name_form (drop at m) ≡ true) _. h n)
 
 asked-says : (m : List ℕ) → Each (Right m) (suc write_meta_command)

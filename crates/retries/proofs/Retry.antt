@@ -67,7 +67,8 @@ module _ (id t : ℕ) (c : Command) (s : State) (g : Sound s) (h : Lasting c) wh
       subst (λ (x : ℕ). on_session (Id x) t c y ≡ on_row r t c y) (id-now ∙ e) (session-row t r c y good live_now)
       ∙ ap (λ (b : ℕ). on_place (place_of b) r t c y) blob-now
       ∙ ap (λ (x : Row × Body p). ((on_part p t c x.0 x.1).0, (cell r p).put (on_part p t c x.0 x.1).1 y)) view-now
-      ∙ ap (λ (o : Reply × (Row × Body p)). (o.0, (cell r p).put o.1 y)) (part-again p t c ((in_row r).get s) ((in_body p).get s) h (row-view-fits r s l.0 g.shape) (body-view-fits p s (in-range (blob r s)) g.shape) kept.1)
+      ∙ ap (λ (o : Reply × (Row × Body p)). (o.0, (cell r p).put o.1 y)) (part-again p t c ((in_row r).get s) ((in_body p).get s) h
+          (row-view-fits r s l.0 g.shape) (body-view-fits p s (in-range (blob r s)) g.shape) kept.1)
       ∙ ap (λ (x : Row × Body p). (out.0, (cell r p).put x y)) (sym view-now)
       ∙ ap (λ (x : State). (out.0, x)) (cell-steady r p y)
     where
@@ -264,7 +265,8 @@ new-busy : (n : List ℕ) (r k flags t : ℕ) (s : State) → Sound s → due t 
     → open_store n flags t (swept t (opened (AtSlot k) r k flags 0 t (new_slot n) s).1) ≡ (refused busy, (opened (AtSlot k) r k flags 0 t (new_slot n) s).1)
 new-busy n r k flags t s g over allowed free e =
     slot-busy n r k flags 0 t (new_slot n) s g over free (free-slot s k e).0
-    (record { name-long = padded-length name_size n; committed-long = length-replicate slot_size 0; staged-long = length-replicate slot_size 0; held-flag = omega arith; mark-flag = omega arith }) refl refl allowed
+    (record { name-long = padded-length name_size n; committed-long = length-replicate slot_size 0; staged-long = length-replicate slot_size 0;
+        held-flag = omega arith; mark-flag = omega arith }) refl refl allowed
 
 -- a flash name: it is listed still, and there is a flash session now
 still-listed : (k : FlashKind) (b : FlashBody) → flash_listed k b.phase ≡ true → flash_listed k (opened_flash k b).phase ≡ true
@@ -282,7 +284,8 @@ module _ (k : FlashKind) (r flags t : ℕ) (s : State) (g : Sound s) (over : due
 
   flash-row : (in_row r).get flashing ≡ new_row (fresh_id s) (flash_number k) write_only 0 t
   unfolding opened
-  flash-row = row_put r AtFlash (new_row (fresh_id s) (flash_number k) write_only 0 t, opened_flash k s.flash_group) s (free-row s r free).0 g.shape.table-size (record { four = refl; flag = omega arith })
+  flash-row = row_put r AtFlash (new_row (fresh_id s) (flash_number k) write_only 0 t, opened_flash k s.flash_group) s (free-row s r free).0
+      g.shape.table-size (record { four = refl; flag = omega arith })
 
   flash-not-due : due t flashing ≡ false
   unfolding opened
@@ -327,7 +330,8 @@ module _ (id t r : ℕ) (s : State) (g : Sound s) (l : Live r s) (e : ident r s 
   closed-again = ap (λ (o : Option ℕ). on_found o (Id id) t close shut) (none_found (Id id) shut (λ (q : ℕ) (v : Live q shut). other q v (ℕ_discrete q r)))
     where
       other : (q : ℕ) → Live q shut → Dec (q ≡ r) → eqb (ident q shut) id ≡ false
-      other q v (yes f) = absurd (let z : ((in_row q).get shut).used ≡ 0 = ap (λ (x : ℕ). ((in_row x).get shut).used) f ∙ ap (λ (x : Row). x.used) shut_row in let u : ((in_row q).get shut).used ≡ 1 = v.1 in omega arith)
+      other q v (yes f) = absurd (let z : ((in_row q).get shut).used ≡ 0 = ap (λ (x : ℕ). ((in_row x).get shut).used) f ∙ ap (λ (x : Row). x.used)
+          shut_row in let u : ((in_row q).get shut).used ≡ 1 = v.1 in omega arith)
       other q v (no n) =
           let same : (in_row q).get shut ≡ (in_row q).get s = other-rows r q t close s (λ (f : r ≡ q). n (sym f)) in
           let was : Live q s = (v.0, sym (ap (λ (x : Row). x.used) same) ∙ v.1) in
@@ -338,10 +342,12 @@ close-quiet : (p : Place) (t : ℕ) (r : Row) (b : Body p) → Session p r b →
 unfolding on_flash close_flash framed
 close-quiet (AtSlot k) t r b ses ok e = let z = ses.no-status in omega arith
 close-quiet AtFlash t r b ses ok e =
-    let z : (framed close_command (close_flash true (kind_of (blob_of r)) r b).0).0 ≡ success = sym (ap (λ (y : Bool). (framed close_command (close_flash y (kind_of (blob_of r)) r b).0).0) (eq-eqb (status_of r) running e)) ∙ ok in
+    let z : (framed close_command (close_flash true (kind_of (blob_of r)) r b).0).0 ≡ success = sym (ap (λ (y : Bool). (framed close_command
+        (close_flash y (kind_of (blob_of r)) r b).0).0) (eq-eqb (status_of r) running e)) ∙ ok in
     omega arith
 
-close-gone : (id t : ℕ) (s : State) → Sound s → (framed close_command (on_session (Id id) t close s).0).0 ≡ success → on_session (Id id) t close (on_session (Id id) t close s).1 ≡ (refused not_found, (on_session (Id id) t close s).1)
+close-gone : (id t : ℕ) (s : State) → Sound s → (framed close_command (on_session (Id id) t close s).0).0 ≡ success → on_session (Id id) t close
+    (on_session (Id id) t close s).1 ≡ (refused not_found, (on_session (Id id) t close s).1)
 unfolding on_session framed
 close-gone id t s g = go (row_found (Id id) s) refl
   where
@@ -365,7 +371,8 @@ delete-gone : (b : Blob) (m : List ℕ) (s : State) → Sound s → Vanished b m
 unfolding delete_blob delete_store framed
 delete-gone (Store at len) m s g =
     some-has (Vanished (Store at len) m) (slot_named n s) (refused not_found, s) _ (λ (e : not_found ≡ success). absurd (omega arith))
-    (λ (k : ℕ) (e : slot_named n s ≡ some k). none_has (Vanished (Store at len) m) (row_found (OnBlob k) s) (refused busy, s) (done, (in_body (AtSlot k)).put free_slot s) (λ (f : busy ≡ success). absurd (omega arith))
+    (λ (k : ℕ) (e : slot_named n s ≡ some k). none_has (Vanished (Store at len) m) (row_found (OnBlob k) s) (refused busy, s)
+        (done, (in_body (AtSlot k)).put free_slot s) (λ (f : busy ≡ success). absurd (omega arith))
     (λ _ _. delete-none n ((in_body (AtSlot k)).put free_slot s) (absent_none n ((in_body (AtSlot k)).put free_slot s) (gone-absent n s g k e))))
   where
     n : List ℕ

@@ -127,7 +127,8 @@ module _ (t id bl w st used : ℕ) where
     unfolding commit_writing
     writing-again false e = ap (λ (y : Bool). commit_writing y t r b) e
     writing-again true e =
-        ap (λ (y : Bool). commit_writing y t (later (word_with f j 1)) (committed_slot b)) (clean-writes 1 (omega arith) ∙ e) ∙ ap (λ (x : Row). (done, (x, committed_slot b))) (clean-again 1 (omega arith))
+        ap (λ (y : Bool). commit_writing y t (later (word_with f j 1)) (committed_slot b)) (clean-writes 1 (omega arith) ∙ e) ∙ ap
+            (λ (x : Row). (done, (x, committed_slot b))) (clean-again 1 (omega arith))
 
     commit-again : (y : Bool) → commit_store y t (commit_store y t r b).1.0 (commit_store y t r b).1.1 ≡ commit_store y t r b
     unfolding commit_store
@@ -167,8 +168,10 @@ module _ (t id bl w st used : ℕ) where
     flash-write-again : (k : FlashKind) (offset : ℕ) (ws : List ℕ)
         → write_flash k t offset ws (write_flash k t offset ws r b).1.0 (write_flash k t offset ws r b).1.1 ≡ write_flash k t offset ws r b
     unfolding write_flash
-    flash-write-again Image offset ws = placed-has image_size b.image_len offset (length ws) r b _ (Rewrites Image offset ws) (image-again offset ws) (λ (code : ℕ) (q : write_flash Image t offset ws r b ≡ refuse code r b). q) refl
-    flash-write-again Hash offset ws = placed-has hash_size b.hash_len offset (length ws) r b _ (Rewrites Hash offset ws) (hash-again offset ws) (λ (code : ℕ) (q : write_flash Hash t offset ws r b ≡ refuse code r b). q) refl
+    flash-write-again Image offset ws = placed-has image_size b.image_len offset (length ws) r b _ (Rewrites Image offset ws) (image-again offset ws)
+        (λ (code : ℕ) (q : write_flash Image t offset ws r b ≡ refuse code r b). q) refl
+    flash-write-again Hash offset ws = placed-has hash_size b.hash_len offset (length ws) r b _ (Rewrites Hash offset ws) (hash-again offset ws)
+        (λ (code : ℕ) (q : write_flash Hash t offset ws r b ≡ refuse code r b). q) refl
     flash-write-again Verify offset ws = refl
     flash-write-again Update offset ws = refl
     flash-write-again Cleanup offset ws = refl
@@ -179,7 +182,8 @@ module _ (t id bl w st used : ℕ) where
 
     verify-again : (y : Bool) → startable r ≡ y → verify_job (startable (verify_job y t r b).1.0) t (verify_job y t r b).1.0 (verify_job y t r b).1.1 ≡ verify_job y t r b
     unfolding verify_job
-    verify-again true e = ap (λ (y : Bool). verify_job y t (later (word_with f running c)) (with_phase Uploading b)) runs_on ∙ ap (λ (x : Row). (done, (x, with_phase Uploading b))) (raised (word_with f running c))
+    verify-again true e = ap (λ (y : Bool). verify_job y t (later (word_with f running c)) (with_phase Uploading b)) runs_on ∙ ap
+        (λ (x : Row). (done, (x, with_phase Uploading b))) (raised (word_with f running c))
     verify-again false e = ap (λ (y : Bool). verify_job y t (stamped t r) b) e ∙ ap (λ (x : Row). (done, (x, b))) (raised w)
 
     update-again : (y : Bool) → startable r ≡ y → update_job (startable (update_job y t r b).1.0) t (update_job y t r b).1.0 (update_job y t r b).1.1 ≡ update_job y t r b

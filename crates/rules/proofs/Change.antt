@@ -185,7 +185,8 @@ module _ (s : State) (sound : Sound s) (i : ℕ) (live : Live i s) (q : Row)
         let n : q.used ≢ 1 = λ (u : q.used ≡ 1). f (live.0, ap (λ (c : Row). c.used) row_new ∙ u) in
         let b : q.used < 2 = proper.row_fits.flag in
         subst (Unheld own) (sym body_new) (proper.freed (omega arith)).1;
-    now-named = λ (k l : ℕ) (e : own ≡ AtSlot k) (hk : k < slot_count) (hl : l < slot_count) (n : k ≢ l) (a : (slot_at k put).held ≡ 1) (b : (slot_at l s).held ≡ 1) (z : (slot_at k put).name ≡ (slot_at l s).name).
+    now-named = λ (k l : ℕ) (e : own ≡ AtSlot k) (hk : k < slot_count) (hl : l < slot_count) (n : k ≢ l) (a : (slot_at k put).held ≡ 1)
+        (b : (slot_at l s).held ≡ 1) (z : (slot_at k put).name ≡ (slot_at l s).name).
         let m : NameKept (AtSlot k) (slot_at k s) (slot_at k put)
         = subst (λ (w : Place). NameKept w ((in_body w).get s) ((in_body w).get put)) e (subst (λ (y : Body own). NameKept own ((in_body own).get s) y) (sym body_new) proper.named) in
         sound.names-differ k l hk hl n (m a).0 b (sym (m a).1 ∙ z);

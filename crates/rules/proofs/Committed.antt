@@ -96,7 +96,8 @@ module _ (n : List ℕ) (t : ℕ) (r : Row) (b : Slot) where
   leaves-write : (y : Bool) (ws : List ℕ) (offset : ℕ) → Leaves (write_store y t offset ws r b)
   unfolding write_store
   leaves-write true ws offset =
-      placed-has slot_size b.staged_len offset (length ws) r b (stored t offset ws r b) Leaves (λ (h : offset ≤ b.staged_len) (l : offset + length ws ≤ slot_size). leaves-stored ws offset) (λ (code : ℕ). as_it_was)
+      placed-has slot_size b.staged_len offset (length ws) r b (stored t offset ws r b) Leaves (λ (h : offset ≤ b.staged_len) (l : offset + length ws
+          ≤ slot_size). leaves-stored ws offset) (λ (code : ℕ). as_it_was)
   leaves-write false ws offset = as_it_was
 
   leaves-writing : (y : Bool) → has_name n b ≡ false → Leaves (commit_writing y t r b)

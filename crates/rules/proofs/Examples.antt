@@ -7,7 +7,8 @@ use Rattle.laws.specs.Bytes.{little, bytes_of, same, first_zero}
 use Rattle.laws.specs.Ranges.{part, length_part}
 use Rattle.crc.specs.Crc.{shift, shifts, byte_step, crc_from, crc}
 use Rattle.crc.proofs.Worked.{nine_digits, digits, nothing}
-use Rattle.protocol.specs.Numbers.{success, out_of_range, too_long, write_command, row_count, slot_count, slot_size, running, not_found, count_command, open_command, read_command, sixteen_bits, read_only, read_write, session_life, sweep_every}
+use Rattle.protocol.specs.Numbers.{success, out_of_range, too_long, write_command, row_count, slot_count, slot_size, running}
+use Rattle.protocol.specs.Numbers.{not_found, count_command, open_command, read_command, sixteen_bits, read_only, read_write, session_life, sweep_every}
 use Rattle.protocol.specs.Decode.{decoded, number_of, asked, body_fits, crc_fits, with_name, fields_at}
 use Rattle.protocol.specs.Frame.{Reply, refused, done, reply, Answer, framed, header}
 use Rattle.protocol.proofs.Sizes.{slot-size}
@@ -114,7 +115,8 @@ store-reply n t i c s h =
 pub reply-is : (t : ℕ) (m : List ℕ) (s : State) (q : Request) (x : Reply) → is_sound s ≡ true → decoded m ≡ q → (answered q t m s).0 ≡ x
     → ((respond t m s).code ≡ (framed (number_of q) x).0) × ((respond t m s).response ≡ (framed (number_of q) x).1)
 reply-is t m s q x h e f =
-    let g : framed (number_of (decoded m)) (answered (decoded m) t m s).0 ≡ framed (number_of q) x = ap (λ (r : Request). framed (number_of r) (answered r t m s).0) e ∙ ap (framed (number_of q)) f in (
+    let g : framed (number_of (decoded m)) (answered (decoded m) t m s).0 ≡ framed (number_of q) x = ap (λ (r : Request). framed (number_of r)
+        (answered r t m s).0) e ∙ ap (framed (number_of q)) f in (
       ap (λ (o : Effect). o.code) (respond-is t m s h) ∙ ap (λ (y : Answer). y.0) g,
       ap (λ (o : Effect). o.response) (respond-is t m s h) ∙ ap (λ (y : Answer). y.1) g,
     )
@@ -306,7 +308,8 @@ writer-sees n h = record {
     is-sound = writer-sound (scan_name letter_a) n name-a h;
     is_live = writer-live (scan_name letter_a) n;
     blob_in_store = let e : blob 0 (writer (scan_name letter_a) n) ≡ 0 = ap blob_of (writer-row (scan_name letter_a) n) in omega arith;
-    sees = ap (λ (r : Row). seen_length (writes r) (slot_at (blob_of r) (writer (scan_name letter_a) n))) (writer-row (scan_name letter_a) n) ∙ ap (λ (b : Slot). b.staged_len) (writer-slot (scan_name letter_a) n);
+    sees = ap (λ (r : Row). seen_length (writes r) (slot_at (blob_of r) (writer (scan_name letter_a) n))) (writer-row (scan_name letter_a) n) ∙ ap
+        (λ (b : Slot). b.staged_len) (writer-slot (scan_name letter_a) n);
   };
   writing = ap writes (writer-row (scan_name letter_a) n);
 }

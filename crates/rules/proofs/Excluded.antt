@@ -88,7 +88,8 @@ module _ (t u offset : ℕ) (r : Row) (b : Slot) (four : length r.words ≡ row_
 
 -- ---- one that invents a count or a size
 -- COUNT SENDS ONE FOR `/scan/`, ONE FOR EACH BIT OF THE MASK OF COMMITTED SLOTS, AND THE FLASH NAMES OF THE PHASE (rule 21.4)
-pub count-from-masks : (t : ℕ) (s : State) → is_sound s ≡ true → (respond t (header count_command) s).response ≡ sent count_command (bytes_of 4 (suc (ones s.store.marks + flash_count s.flash_group.phase)))
+pub count-from-masks : (t : ℕ) (s : State) → is_sound s ≡ true → (respond t (header count_command) s).response ≡ sent count_command
+    (bytes_of 4 (suc (ones s.store.marks + flash_count s.flash_group.phase)))
 count-from-masks t s h =
     ap (λ (o : Effect). o.response) (count-answer t s h) ∙ ap (λ (n : ℕ). sent count_command (bytes_of 4 n)) (count-is s (sound-of-test s h).shape.marks-small)
 
@@ -98,7 +99,8 @@ size-sent state size h = four_bytes size h
 
 -- SESSIONSTAT SENDS THE LENGTH THAT THE SESSION SEES (rule 21.4)
 pub stat-size : (t : ℕ) (r : Row) (b : Slot) → seen_length (writes r) b < thirty_two_bits
-    → ((on_store t stat r b).0 ≡ reply (stat_fields (state_bits (word_of r)) (seen_length (writes r) b))) × (little 4 2 (stat_fields (state_bits (word_of r)) (seen_length (writes r) b)) ≡ seen_length (writes r) b)
+    → ((on_store t stat r b).0 ≡ reply (stat_fields (state_bits (word_of r)) (seen_length (writes r) b))) × (little 4 2 (stat_fields
+        (state_bits (word_of r)) (seen_length (writes r) b)) ≡ seen_length (writes r) b)
 unfolding on_store
 stat-size t r b h = (refl, size-sent (state_bits (word_of r)) (seen_length (writes r) b) h)
 
@@ -118,7 +120,8 @@ longer-differs = refl
 pub only-the-whole-name : (n : ℕ) → (slot_named moreau (writer moreau n) ≡ some 0) × (slot_named moreau2 (writer moreau n) ≡ none)
 unfolding slot_named
 only-the-whole-name n = (
-  first_some (asked moreau) slot_count 0 (omega arith) (ap (holds moreau) (writer-slot moreau n) ∙ same_refl (padded name_size moreau)) (λ (k : ℕ) (l : k < slot_count) (m : k ≢ 0). elsewhere moreau k m),
+  first_some (asked moreau) slot_count 0 (omega arith) (ap (holds moreau) (writer-slot moreau n) ∙ same_refl (padded name_size moreau))
+      (λ (k : ℕ) (l : k < slot_count) (m : k ≢ 0). elsewhere moreau k m),
   first-none (asked moreau2) slot_count (λ (k : ℕ) (l : k < slot_count). at k (ℕ_discrete k 0)),
 )
   where
@@ -137,7 +140,8 @@ only-the-whole-name n = (
 
 -- ---- one that hands a closed identifier straight out again
 -- AFTER AN OPEN GAVE OUT AN IDENTIFIER, "NEXT" IS ITS SUCCESSOR; so the next Open does not give it out: `not-again` of Identifiers (rule 21.4)
-pub next-moves : (p : Place) (r b flags clean t : ℕ) (body : Body p) (s : State) → ((opened p r b flags clean t body s).0 ≡ reply (bytes_of 2 (fresh_id s))) × ((opened p r b flags clean t body s).1.next ≡ after (fresh_id s))
+pub next-moves : (p : Place) (r b flags clean t : ℕ) (body : Body p) (s : State) → ((opened p r b flags clean t body s).0 ≡ reply
+    (bytes_of 2 (fresh_id s))) × ((opened p r b flags clean t body s).1.next ≡ after (fresh_id s))
 unfolding opened
 next-moves p r b flags clean t body s = (refl, refl)
 
@@ -210,7 +214,8 @@ module _ (t : ℕ) (r : Row) (four : length r.words ≡ row_words) where
     write-lifts : (y : Bool) (ws : List ℕ) (offset : ℕ) → Lifted t r (write_store y t offset ws r b)
     unfolding write_store
     write-lifts true ws offset =
-        placed-has slot_size b.staged_len offset (length ws) r b (stored t offset ws r b) (Lifted t r) (λ (h : offset ≤ b.staged_len) (l : offset + length ws ≤ slot_size). stored-lifts ws offset) (no-stamp b)
+        placed-has slot_size b.staged_len offset (length ws) r b (stored t offset ws r b) (Lifted t r) (λ (h : offset ≤ b.staged_len)
+            (l : offset + length ws ≤ slot_size). stored-lifts ws offset) (no-stamp b)
     write-lifts false ws offset = no-stamp b not_supported
 
     writing-lifts : (y : Bool) → Lifted t r (commit_writing y t r b)
@@ -236,7 +241,8 @@ module _ (t : ℕ) (r : Row) (four : length r.words ≡ row_words) where
   module _ (b : FlashBody) where
     flash-write-lifts : (k : FlashKind) (ws : List ℕ) (offset : ℕ) → Lifted t r (write_flash k t offset ws r b)
     unfolding write_flash
-    flash-write-lifts Image ws offset = placed-has image_size b.image_len offset (length ws) r b _ (Lifted t r) (λ (h : offset ≤ b.image_len) (l : offset + length ws ≤ image_size) x. lifted) (no-stamp b)
+    flash-write-lifts Image ws offset = placed-has image_size b.image_len offset (length ws) r b _ (Lifted t r) (λ (h : offset ≤ b.image_len)
+        (l : offset + length ws ≤ image_size) x. lifted) (no-stamp b)
     flash-write-lifts Hash ws offset = placed-has hash_size b.hash_len offset (length ws) r b _ (Lifted t r) (λ (h : offset ≤ b.hash_len) (l : offset + length ws ≤ hash_size) x. lifted) (no-stamp b)
     flash-write-lifts Verify ws offset = no-stamp b not_supported
     flash-write-lifts Update ws offset = no-stamp b not_supported
@@ -286,7 +292,8 @@ unfolding on_store on_flash
 stat-row (AtSlot k) t r b = refl
 stat-row AtFlash t r b = refl
 
-stamp-after : (i t : ℕ) (s : State) → i < row_count → length s.sessions.table ≡ row_count * row_words → FitsRow ((in_row i).get s) → stamp_of ((in_row i).get (on_row i t stat s).1) ≡ max (stamp_of ((in_row i).get s)) t
+stamp-after : (i t : ℕ) (s : State) → i < row_count → length s.sessions.table ≡ row_count * row_words → FitsRow ((in_row i).get s) → stamp_of
+    ((in_row i).get (on_row i t stat s).1) ≡ max (stamp_of ((in_row i).get s)) t
 stamp-after i t s low long fits =
     let p = place_of (blob i s) in
     let o = (on_part p t stat ((in_row i).get s) ((in_body p).get s)).1 in
@@ -436,7 +443,8 @@ module _ (t : ℕ) (r : Row) (b : FlashBody) (four : length r.words ≡ row_word
 
 -- ---- one that answers a Delete by another kind of name
 -- A DELETE OF AN UNKNOWN NAME IS CB, OF THE BASE AND OF A FLASH NAME D5 (rule 14.1)
-pub delete-unheld : (m : List ℕ) (s : State) → ((delete_blob Unknown m s).0 ≡ refused not_found) × ((delete_blob Base m s).0 ≡ refused not_supported) × ((k : FlashKind) → (delete_blob (Flash k) m s).0 ≡ refused not_supported)
+pub delete-unheld : (m : List ℕ) (s : State) → ((delete_blob Unknown m s).0 ≡ refused not_found) × ((delete_blob Base m s).0 ≡ refused not_supported)
+    × ((k : FlashKind) → (delete_blob (Flash k) m s).0 ≡ refused not_supported)
 unfolding delete_blob
 delete-unheld m s = (refl, refl, λ (k : FlashKind). refl)
 

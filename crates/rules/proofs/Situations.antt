@@ -191,7 +191,8 @@ names_apart = same_false (padded name_size (scan_name letter_b)) (padded name_si
 pub two_good : (n : ℕ) → n ≤ slot_size → Sound (two_writers n)
 unfolding two_writers
 two_good n h =
-    second-good n h (AtSlot 1) (writing_row 1) (written_slot (scan_name letter_b) n) refl refl refl (omega arith) (omega arith, written-fits (scan_name letter_b) n) (written-session 1 (scan_name letter_b) n (omega arith) h name-b) (omega arith)
+    second-good n h (AtSlot 1) (writing_row 1) (written_slot (scan_name letter_b) n) refl refl refl (omega arith) (omega arith, written-fits
+        (scan_name letter_b) n) (written-session 1 (scan_name letter_b) n (omega arith) h name-b) (omega arith)
     (λ (l : ℕ) (low : l < slot_count) (m : 1 ≢ l) (u : (slot_at l (writer (scan_name letter_a) n)).held ≡ 1). fresh-name l u (ℕ_discrete l 0))
   where
     fresh-name : (l : ℕ) → (slot_at l (writer (scan_name letter_a) n)).held ≡ 1 → Dec (l ≡ 0) → padded name_size (scan_name letter_b) ≢ (slot_at l (writer (scan_name letter_a) n)).name
@@ -228,7 +229,8 @@ verify-session = record {
 -- the facts of soundness hold
 pub verify-good : (n : ℕ) → n ≤ slot_size → Sound (writer_and_verify n)
 unfolding writer_and_verify
-verify-good n h = second-good n h AtFlash (verify_row running 100) new_image refl refl refl tt (length-replicate {A = ℕ} image_size 0, length-replicate {A = ℕ} hash_size 0) verify-session (omega arith) tt
+verify-good n h = second-good n h AtFlash (verify_row running 100) new_image refl refl refl tt (length-replicate {A = ℕ} image_size 0,
+    length-replicate {A = ℕ} hash_size 0) verify-session (omega arith) tt
 
 -- the two rows and the first slot
 pub two-first : (n : ℕ) → (in_row 0).get (two_writers n) ≡ writing_row 0
@@ -238,7 +240,8 @@ two-first n = cell-row-other 1 0 (AtSlot 1) (writing_row 1, written_slot (scan_n
 -- the second row
 pub two-second : (n : ℕ) → n ≤ slot_size → (in_row 1).get (two_writers n) ≡ writing_row 1
 unfolding two_writers
-two-second n h = row_put 1 (AtSlot 1) (writing_row 1, written_slot (scan_name letter_b) n) (writer (scan_name letter_a) n) (omega arith) (writer-good (scan_name letter_a) n name-a h).shape.table-size (record { four = refl; flag = omega arith })
+two-second n h = row_put 1 (AtSlot 1) (writing_row 1, written_slot (scan_name letter_b) n) (writer (scan_name letter_a) n) (omega arith)
+    (writer-good (scan_name letter_a) n name-a h).shape.table-size (record { four = refl; flag = omega arith })
 
 -- the first slot
 pub two-slot : (n : ℕ) → slot_at 0 (two_writers n) ≡ written_slot (scan_name letter_a) n
@@ -253,7 +256,8 @@ verify-first n = cell-row-other 1 0 AtFlash (verify_row running 100, new_image) 
 -- the second row
 pub verify-second : (n : ℕ) → n ≤ slot_size → (in_row 1).get (writer_and_verify n) ≡ verify_row running 100
 unfolding writer_and_verify
-verify-second n h = row_put 1 AtFlash (verify_row running 100, new_image) (writer (scan_name letter_a) n) (omega arith) (writer-good (scan_name letter_a) n name-a h).shape.table-size (record { four = refl; flag = omega arith })
+verify-second n h = row_put 1 AtFlash (verify_row running 100, new_image) (writer (scan_name letter_a) n) (omega arith) (writer-good
+    (scan_name letter_a) n name-a h).shape.table-size (record { four = refl; flag = omega arith })
 
 -- the first slot
 pub verify-slot : (n : ℕ) → slot_at 0 (writer_and_verify n) ≡ written_slot (scan_name letter_a) n

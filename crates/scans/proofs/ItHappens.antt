@@ -219,7 +219,8 @@ module _ (s : State) (f : NoSession s) where
 kept : scan_of name closed ≡ some (record { len = (slot_at (blob 0 uploading) uploading).staged_len; bytes = (slot_at (blob 0 uploading) uploading).staged_bytes })
 kept = close-leaves name 300 (ident 0 committed) close_upload committed sound₁ close-asked ∙ (commit-keeps name 200 0 commit_upload uploading sound₀ live₀ low₀ writes₀ has-name commit-asked).1
 
-opens : (n : List ℕ) (t k r : ℕ) (s : State) → slot_named n s ≡ some k → row_found (OnBlob k) s ≡ none → free_row_in s ≡ some r → open_store n read_only t s ≡ opened (AtSlot k) r k read_only 1 t (slot_at k s) s
+opens : (n : List ℕ) (t k r : ℕ) (s : State) → slot_named n s ≡ some k → row_found (OnBlob k) s ≡ none → free_row_in s ≡ some r → open_store n
+    read_only t s ≡ opened (AtSlot k) r k read_only 1 t (slot_at k s) s
 unfolding open_store
 opens n t k r s a b c = rw (store-reads, a, b, c)
 

@@ -92,7 +92,8 @@ module _ (n : List ℕ) where
       go (yes e) = subst (λ (x : ℕ). Alike n (slot_at x s) (slot_at x (on_row r t c s).1)) (sym e) (own (omega arith))
       go (no m) = alike-eq n (slot_at k s) (slot_at k (on_row r t c s).1) (other-slot s g r l t c k h m)
 
-  session-leaves : (a : Wanted) (t : ℕ) (c : Command) (s : State) → Sound s → ((r : ℕ) → row_found a s ≡ some r → blob r s < slot_count → Spares n (slot_at (blob r s) s) c) → All n s (on_session a t c s).1
+  session-leaves : (a : Wanted) (t : ℕ) (c : Command) (s : State) → Sound s → ((r : ℕ) → row_found a s ≡ some r → blob r s < slot_count → Spares n
+      (slot_at (blob r s) s) c) → All n s (on_session a t c s).1
   unfolding on_session
   session-leaves a t c s g f = go (row_found a s) refl
     where
@@ -243,7 +244,8 @@ module _ (n : List ℕ) where
       g = sound-of-test s h
 
       go : (y : Bool) → asks_to_replace n (decoded m) m s ≡ y → y && eqb (respond t m s).code success ≡ false → All n s (respond t m s).state
-      go true e f = subst (All n s) (sym ((refused-message t m s (eqb-false (respond t m s).code success f)).as-found ∙ ap (λ (y : Bool). left_in y (decoded m) t s) h)) (refusal-leaves (decoded m) t s g)
+      go true e f = subst (All n s) (sym ((refused-message t m s (eqb-false (respond t m s).code success f)).as-found ∙ ap (λ (y : Bool). left_in y
+          (decoded m) t s) h)) (refusal-leaves (decoded m) t s g)
       go false e f = subst (All n s) (sym (ap (λ (o : Effect). o.state) (respond-is t m s h))) (answered-leaves (decoded m) t m s g e)
 
   outcome-leaves : (good : Bool) (s : State) → is_sound s ≡ true → All n s (job_outcome good s).state

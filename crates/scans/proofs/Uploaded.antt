@@ -92,7 +92,8 @@ module _ (x : Scan) (t r k : ℕ) (s : State) (g : Sound s) (free : free_row_in 
 
   part-now : (cell r (AtSlot k)).get given ≡ (new_row (fresh_id s) k read_only 1 t, slot_at k s)
   unfolding opened
-  part-now = cell-get-put r (AtSlot k) (new_row (fresh_id s) k read_only 1 t, slot_at k s) s (free-row s r free).0 g.shape (record { four = refl; flag = omega arith }) (body-view-fits (AtSlot k) s low g.shape)
+  part-now = cell-get-put r (AtSlot k) (new_row (fresh_id s) k read_only 1 t, slot_at k s) s (free-row s r free).0 g.shape
+      (record { four = refl; flag = omega arith }) (body-view-fits (AtSlot k) s low g.shape)
 
   row_now : (in_row r).get given ≡ new_row (fresh_id s) k read_only 1 t
   row_now = ap (λ (c : Row × Slot). c.0) part-now
@@ -114,7 +115,8 @@ module _ (x : Scan) (t r k : ℕ) (s : State) (g : Sound s) (free : free_row_in 
     sizes = λ (u : ℕ) (m : List ℕ) (d : decoded m ≡ SessionStat (fresh_id s)).
         let a = session-sizes given h r live there u m (d ∙ sym (ap SessionStat id-now)) in (
           a.0,
-          a.1 ∙ ap (λ (b : ℕ). sent session_stat_command (stat_fields b (seen_length (writes ((in_row r).get given)) (slot_at (blob r given) given)))) (ap (λ (w : Row). state_bits (word_of w)) row_now ∙ reader-bits (fresh_id s) k t)
+          a.1 ∙ ap (λ (b : ℕ). sent session_stat_command (stat_fields b (seen_length (writes ((in_row r).get given)) (slot_at (blob r given) given))))
+              (ap (λ (w : Row). state_bits (word_of w)) row_now ∙ reader-bits (fresh_id s) k t)
               ∙ ap (λ (y : Scan). sent session_stat_command (stat_fields (state_open_read + state_committed) y.len)) seen-now,
         );
   }
@@ -142,7 +144,8 @@ module _ (n name : List ℕ) (x : Scan) (t : ℕ) (s : State) (g : Sound s) (has
   unfolding framed
   not-given code n h e = absurd (n e)
 
-  held-given : (r k : ℕ) → store_flags read_only ≡ true → slot_named name s ≡ some k → row_found (OnBlob k) s ≡ none → free_row_in s ≡ some r → Gives x (opened (AtSlot k) r k read_only 1 t (held_slot read_only (slot_at k s)) s)
+  held-given : (r k : ℕ) → store_flags read_only ≡ true → slot_named name s ≡ some k → row_found (OnBlob k) s ≡ none → free_row_in s ≡ some r → Gives
+      x (opened (AtSlot k) r k read_only 1 t (held_slot read_only (slot_at k s)) s)
   unfolding opened framed
   held-given r k _ e _ free = subst (λ (j : ℕ). Gives x (opened (AtSlot j) r j read_only 1 t (slot_at j s) s)) (cc found-there) here
     where
@@ -154,14 +157,16 @@ module _ (n name : List ℕ) (x : Scan) (t : ℕ) (s : State) (g : Sound s) (has
       (λ (r k : ℕ) _ (e : slot_named name s ≡ none) _ _ _. absurd (let z : ◌≡◌ {A = ℕ} 0 1 = cc found-there in omega arith))
 
 -- AN OPEN FOR READING OF A COMMITTED NAME, WHERE IT IS ACCEPTED, GIVES A SESSION THAT IS SHOWN THE SCAN, byte for byte, with its length (rule 21.11)
-pub open-shows : (n : List ℕ) (x : Scan) (t at len : ℕ) (m : List ℕ) (s : State) → is_sound s ≡ true → scan_of n s ≡ some x → decoded m ≡ Open read_only (Store at len) → same_name (part at len m) n ≡ true
+pub open-shows : (n : List ℕ) (x : Scan) (t at len : ℕ) (m : List ℕ) (s : State) → is_sound s ≡ true → scan_of n s ≡ some x → decoded m ≡ Open
+    read_only (Store at len) → same_name (part at len m) n ≡ true
     → (respond t m s).code ≡ success → Opens x (respond t m s)
 unfolding open_blob
 open-shows n x t at len m s h has d asked ok =
     let e = open_is t read_only (Store at len) m s h d in
     let g₁ = sound-of-test s h in
     subst (Opens x) (sym e)
-    (name-given n (part at len m) x t (swept t s) (swept-sound t s g₁) (sweep-same n t s g₁ ∙ has) asked (ap (λ (o : Effect). is_sound o.state) (sym e) ∙ respond-sound t m s h) (sym (ap (λ (o : Effect). o.code) e) ∙ ok))
+    (name-given n (part at len m) x t (swept t s) (swept-sound t s g₁) (sweep-same n t s g₁ ∙ has) asked (ap (λ (o : Effect). is_sound o.state)
+        (sym e) ∙ respond-sound t m s h) (sym (ap (λ (o : Effect). o.code) e) ∙ ok))
 
 -- WHAT A SESSION THAT WRITES READS WHEN IT COMMITS IS WHAT ANY LATER OPEN FOR READING OF ITS NAME SHOWS, unless an event between the two replaced it (rule 21.11)
 pub upload-shown : (n : List ℕ) (t i : ℕ) (m : List ℕ) (s : State) (es : List Event) (u at len : ℕ) (m' : List ℕ)

@@ -46,7 +46,8 @@ module _ (s : State) (t : ℕ) (cmd : Command) {w : Wanted} {x : Found} (looked 
   of_none p = ap (λ (y : Option ℕ). on_found y w t cmd s) (sym (row_in s looked p))
 
 -- the row that was found, read as e
-pub row_is : {x : Found} {w : Wanted} {rows : ℕ} {table : List ℕ} {r : ℕ} {e : Entry} → FoundRow x w rows table → x ≡ At r → TableLent table → (block row_words r).get table ≡ words_of e → RowIs table r e
+pub row_is : {x : Found} {w : Wanted} {rows : ℕ} {table : List ℕ} {r : ℕ} {e : Entry} → FoundRow x w rows table → x ≡ At r → TableLent table →
+    (block row_words r).get table ≡ words_of e → RowIs table r e
 row_is looked p size u = record { table-size = size; row_low = row_low looked p; words_of_row = u }
 
 -- the flash session's row names a flash blob
@@ -56,7 +57,8 @@ found-flash {rows = rows} {table = table} {r = r} {e = e} looked p u =
     place-flash e.blob (leb-true slot_count e.blob (sym (ap (λ (l : List ℕ). leb slot_count (get_or l 1 0)) u) ∙ h))
 
 -- "Read: .. not a store session (D5)"
-pub flash-read : (s : State) (r : ℕ) (e : Entry) → (block row_words r).get s.sessions.table ≡ words_of e → place_of e.blob ≡ AtFlash → (t offset count : ℕ) → (refused not_supported, s) ≡ on_row r t (read offset count) s
+pub flash-read : (s : State) (r : ℕ) (e : Entry) → (block row_words r).get s.sessions.table ≡ words_of e → place_of e.blob ≡ AtFlash →
+    (t offset count : ℕ) → (refused not_supported, s) ≡ on_row r t (read offset count) s
 unfolding on_flash
 flash-read s r e words place t offset count = refuses s r e words AtFlash place t (read offset count) not_supported refl
 
@@ -74,4 +76,5 @@ pub meta-is : (s : State) (r t : ℕ) → (refused not_supported, s) ≡ on_row 
 meta-is s r t = go (place_of (blob r s))
   where
     go : (p : Place) → (refused not_supported, s) ≡ on_place p r t write_meta s
-    go p = sym (ap (λ (o : Reply × (Row × Body p)). (o.0, (cell r p).put o.1 s)) (part-meta p t ((in_row r).get s) ((in_body p).get s)) ∙ ap (λ (y : State). (refused not_supported, y)) (cell-steady r p s))
+    go p = sym (ap (λ (o : Reply × (Row × Body p)). (o.0, (cell r p).put o.1 s)) (part-meta p t ((in_row r).get s) ((in_body p).get s)) ∙ ap
+        (λ (y : State). (refused not_supported, y)) (cell-steady r p s))

@@ -94,7 +94,8 @@ module _ (t len rest : ℕ) (e : Entry) (used : ℕ) (b : FlashBody) where
   unfolding on_flash commit_flash commit_kind
   commit-update k p q = rw (p, q) (update-starts (startable_in e.word))
 
-  commit-cleanup : (k : FlashKind) → commit_fits len rest ≡ true → k ≡ Cleanup → on_flash k t (commit len rest) x b ≡ (done, (record { words = words_of (lifted (status_set e succeeded) t); used = used }, empty_flash))
+  commit-cleanup : (k : FlashKind) → commit_fits len rest ≡ true → k ≡ Cleanup → on_flash k t (commit len rest) x b ≡
+      (done, (record { words = words_of (lifted (status_set e succeeded) t); used = used }, empty_flash))
   unfolding on_flash commit_flash commit_kind
   commit-cleanup k p q = rw (p, q)
 
@@ -122,7 +123,8 @@ module _ (k : FlashKind) (t : ℕ) (x : Row) (b : FlashBody) where
   unfolding on_flash close_flash
   close-busy p = rw (eq-eqb (status_of x) running p)
 
-  close-free : (y : Bool) → (status_of x ≡ running → ⊥) → updated_by k (status_of x) ≡ y → on_flash k t close x b ≡ (done, (free_row, cond y empty_flash (with_phase (closed_phase k (status_of x) b.phase) b)))
+  close-free : (y : Bool) → (status_of x ≡ running → ⊥) → updated_by k (status_of x) ≡ y → on_flash k t close x b ≡ (done, (free_row, cond y
+      empty_flash (with_phase (closed_phase k (status_of x) b.phase) b)))
   unfolding on_flash close_flash
   close-free y p q =
       rw (ne_eqb (status_of x) running p)
@@ -143,7 +145,8 @@ module _ (s : State) (r : ℕ) (e : Entry) (words : (block row_words r).get s.se
   after table b = with s (record { table = table; rows = s.sessions.rows }) s.store b
 
   part-does : (cmd : Command) (q : Reply) (f : Entry) (b b' : FlashBody) (table : List ℕ)
-      → on_flash (kind_of e.blob) t cmd (row_read r e s) s.flash_group ≡ (q, (row_read r f s, b)) → table ≡ (block row_words r).put (words_of f) s.sessions.table → b ≡ b' → (q, after table b') ≡ on_row r t cmd s
+      → on_flash (kind_of e.blob) t cmd (row_read r e s) s.flash_group ≡ (q, (row_read r f s, b)) → table ≡ (block row_words r).put (words_of f)
+          s.sessions.table → b ≡ b' → (q, after table b') ≡ on_row r t cmd s
   part-does cmd q f b b' table h p u =
       does s r e words AtFlash place t cmd q (row_read r f s) b _ h (put-flash s r (row_read r f s) _ (row_kept r s.sessions (words_of f) table p) b b' u)
 
@@ -167,7 +170,8 @@ module _ (s : State) (r : ℕ) (e : Entry) (words : (block row_words r).get s.se
         ∙ ap Left (pw ∙ ap (λ (m : ℕ). written m len offset (length ws)) size)
         ∙ written_has capacity len offset (length ws) (row_read r e s) s.flash_group accepted (λ (y : Written) (o : Out FlashBody). on_flash (kind_of e.blob) t (write offset ws)
         (row_read r e s) s.flash_group ≡ o → Left y ≡ on_row r t (write offset ws) s)
-        (λ (p : offset ≤ len) (q : offset + length ws ≤ capacity) (u : on_flash (kind_of e.blob) t (write offset ws) (row_read r e s) s.flash_group ≡ accepted). part-does (write offset ws) done (lifted e t) _ _ _ u refl refl)
+        (λ (p : offset ≤ len) (q : offset + length ws ≤ capacity) (u : on_flash (kind_of e.blob) t (write offset ws) (row_read r e s) s.flash_group ≡
+            accepted). part-does (write offset ws) done (lifted e t) _ _ _ u refl refl)
         (λ (code : ℕ) (u : on_flash (kind_of e.blob) t (write offset ws) (row_read r e s) s.flash_group ≡ refuse code (row_read r e s) s.flash_group).
         ap (λ (y : FlashBody). (refused code, after s.sessions.table y)) same ∙ part-refuses (write offset ws) code u)
         h
@@ -197,7 +201,8 @@ module _ (s : State) (r : ℕ) (e : Entry) (words : (block row_words r).get s.se
     pub cleanup-is : (table : List ℕ) (b : FlashBody) → commit_fits len rest ≡ true → kind_of e.blob ≡ Cleanup
         → table ≡ (block row_words r).put (words_of (lifted (status_set e succeeded) t)) s.sessions.table → b ≡ empty_flash
         → (done, after table b) ≡ on_row r t (commit len rest) s
-    cleanup-is table b p q u1 u2 = part-does (commit len rest) done (lifted (status_set e succeeded) t) _ b table (commit-cleanup t len rest e (bit r s.sessions.rows) s.flash_group (kind_of e.blob) p q) u1 (sym u2)
+    cleanup-is table b p q u1 u2 = part-does (commit len rest) done (lifted (status_set e succeeded) t) _ b table (commit-cleanup t len rest e
+        (bit r s.sessions.rows) s.flash_group (kind_of e.blob) p q) u1 (sym u2)
 
   -- Close
   pub close-c0 : status_in e.word ≡ running → (refused busy, s) ≡ on_row r t close s
@@ -212,11 +217,13 @@ module _ (s : State) (r : ℕ) (e : Entry) (words : (block row_words r).get s.se
       (put-flash s r free_row _ (row-freed r s.sessions table rows u1 u2) _ b (sym u3))
 
   -- SessionStat
-  stat-does : (table : List ℕ) → table ≡ (block row_words r).put (words_of (lifted e t)) s.sessions.table → (reply (stat_flash (kind_of e.blob) (row_read r e s) s.flash_group), after table s.flash_group) ≡ on_row r t stat s
+  stat-does : (table : List ℕ) → table ≡ (block row_words r).put (words_of (lifted e t)) s.sessions.table → (reply (stat_flash (kind_of e.blob)
+      (row_read r e s) s.flash_group), after table s.flash_group) ≡ on_row r t stat s
   unfolding on_flash
   stat-does table p = part-does stat _ (lifted e t) s.flash_group s.flash_group table refl p refl
 
-  pub stat-is : (state size : ℕ) (table : List ℕ) → state ≡ state_bits e.word → size ≡ flash_length (kind_of e.blob) s.flash_group → table ≡ (block row_words r).put (words_of (lifted e t)) s.sessions.table
+  pub stat-is : (state size : ℕ) (table : List ℕ) → state ≡ state_bits e.word → size ≡ flash_length (kind_of e.blob) s.flash_group → table ≡
+      (block row_words r).put (words_of (lifted e t)) s.sessions.table
       → (reply (stat_fields state size), after table s.flash_group) ≡ on_row r t stat s
   stat-is state size table p q u = (λ i. (reply (stat_fields (p i) (q i)), after table s.flash_group)) ∙ stat-does table u
 
@@ -225,5 +232,6 @@ module _ (s : State) (r : ℕ) (e : Entry) (words : (block row_words r).get s.se
     pub outcome-d5 : (status_in e.word ≡ running → ⊥) → (refused not_supported, s) ≡ on_row r t (end_job good) s
     outcome-d5 p = part-refuses (end_job good) not_supported (outcome-none (kind_of e.blob) t (row_read r e s) s.flash_group good p)
 
-    pub outcome-is : (table : List ℕ) → status_in e.word ≡ running → table ≡ (block row_words r).put (words_of (status_set e (verdict good))) s.sessions.table → (done, after table s.flash_group) ≡ on_row r t (end_job good) s
+    pub outcome-is : (table : List ℕ) → status_in e.word ≡ running → table ≡ (block row_words r).put (words_of (status_set e (verdict good)))
+        s.sessions.table → (done, after table s.flash_group) ≡ on_row r t (end_job good) s
     outcome-is table p u = part-does (end_job good) done (status_set e (verdict good)) _ s.flash_group table (outcome-running (kind_of e.blob) t (row_read r e s) s.flash_group good p) u refl

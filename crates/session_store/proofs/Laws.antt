@@ -47,7 +47,8 @@ stored_is [] t offset e used b h =
     ap (λ (n : ℕ). (done, (record { words = words_of (lifted e t); used = used }, with_staged b.staged_bytes n b))) q
 stored_is (x ∷ ws) t offset e used b h =
     let n : eqb (length (x ∷ ws)) 0 ≡ false = ne_eqb (length (x ∷ ws)) 0 (λ (z : length (x ∷ ws) ≡ 0). omega arith) in
-    ap (λ (y : Bool). (done, (record { words = words_of (lifted (cond y e (clean_set e 0)) t); used = used }, with_staged (sets b.staged_bytes offset (x ∷ ws)) (max b.staged_len (offset + length (x ∷ ws))) b))) (sym n)
+    ap (λ (y : Bool). (done, (record { words = words_of (lifted (cond y e (clean_set e 0)) t); used = used }, with_staged (sets b.staged_bytes offset
+        (x ∷ ws)) (max b.staged_len (offset + length (x ∷ ws))) b))) (sym n)
 
 module _ (t : ℕ) (x : Row) (b : Slot) where
   write-reader : (offset : ℕ) (ws : List ℕ) → writes x ≡ false → on_store t (write offset ws) x b ≡ refuse not_supported x b
@@ -114,11 +115,13 @@ module _ (s : State) (r : ℕ) (e : Entry) (words : (block row_words r).get s.se
           (staged_as (region_by w (k * 4096 + offset) ws s.store.staged) (set s.store.staged_lens k (length_by w (get_or s.store.staged_lens k 0))) s.store) s.flash_group,
     )
 
-    left_is : length s.store.staged ≡ slot_count * slot_size → eqb (writing_in e.word) 1 ≡ true → Left (written slot_size (get_or s.store.staged_lens k 0) offset (length ws)) ≡ on_row r t (write offset ws) s
+    left_is : length s.store.staged ≡ slot_count * slot_size → eqb (writing_in e.word) 1 ≡ true → Left (written slot_size (get_or s.store.staged_lens
+        k 0) offset (length ws)) ≡ on_row r t (write offset ws) s
     left_is size p =
         let x : Row = row_read r e s in
         let b : Slot = slot_at k s in
-        written_has slot_size b.staged_len offset (length ws) x b (stored t offset ws x b) (λ (y : Written) (o : Out Slot). on_store t (write offset ws) x b ≡ o → Left y ≡ on_row r t (write offset ws) s)
+        written_has slot_size b.staged_len offset (length ws) x b (stored t offset ws x b) (λ (y : Written) (o : Out Slot). on_store t
+            (write offset ws) x b ≡ o → Left y ≡ on_row r t (write offset ws) s)
         (λ (h : offset ≤ b.staged_len) (l : offset + length ws ≤ slot_size) (u : on_store t (write offset ws) x b ≡ stored t offset ws x b).
         part-does (write offset ws) done (lifted (written_row ws e) t) _ _ _ (u ∙ stored_is ws t offset e (bit r s.sessions.rows) b h) refl
         (staged-put k s.store (sets s.store.staged (k * 4096 + offset) ws) _ _ (region-written k offset ws s.store.staged on.slot-low size l)))
@@ -133,7 +136,8 @@ module _ (s : State) (r : ℕ) (e : Entry) (words : (block row_words r).get s.se
     write-is w said f table g len size p pw ps pf pt pg pl =
         (λ i. (
           reply_of (ps i) answer,
-          with s (record { table = (pt ∙ ap (λ (y : Entry). table_by w r (words_of y) s.sessions.table) pf) i; rows = s.sessions.rows }) (staged_as (pg i) (set s.store.staged_lens k (pl i)) s.store) s.flash_group,
+          with s (record { table = (pt ∙ ap (λ (y : Entry). table_by w r (words_of y) s.sessions.table) pf) i; rows = s.sessions.rows })
+              (staged_as (pg i) (set s.store.staged_lens k (pl i)) s.store) s.flash_group,
         ))
         ∙ ap Left (pw ∙ ap (λ (m : ℕ). written m (get_or s.store.staged_lens k 0) offset (length ws)) (sym slot-size))
         ∙ left_is size p
@@ -200,7 +204,8 @@ module _ (s : State) (r : ℕ) (e : Entry) (words : (block row_words r).get s.se
   pub read_is : (offset count n : ℕ) (writing : Bool) (table answer after shown : List ℕ) → writing ≡ eqb (writing_in e.word) 1
       → shown ≡ part offset (read_count count offset (seen_length writing (slot_at k s))) (seen_bytes writing (slot_at k s)) → length shown ≡ n → fields_at + n ≤ length answer
       → after ≡ sets answer fields_at shown → table ≡ (block row_words r).put (words_of (lifted e t)) s.sessions.table
-      → ((reply (part fields_at n after), with s (record { table = table; rows = s.sessions.rows }) s.store s.flash_group) ≡ on_row r t (read offset count) s) × (after ≡ fields_laid (on_row r t (read offset count) s).0 answer)
+      → ((reply (part fields_at n after), with s (record { table = table; rows = s.sessions.rows }) s.store s.flash_group) ≡ on_row r t
+          (read offset count) s) × (after ≡ fields_laid (on_row r t (read offset count) s).0 answer)
   read_is offset count n writing table answer after shown pw ps pl room pa pt =
       let f : shown ≡ part offset (read_count count offset (seen_length (writes (row_read r e s)) (slot_at k s))) (seen_bytes (writes (row_read r e s)) (slot_at k s))
       = ps ∙ ap (λ (y : Bool). part offset (read_count count offset (seen_length y (slot_at k s))) (seen_bytes y (slot_at k s))) pw in
@@ -221,4 +226,5 @@ module _ (s : State) (r : ℕ) (e : Entry) (words : (block row_words r).get s.se
       → table ≡ (block row_words r).put (words_of (lifted e t)) s.sessions.table
       → (reply (stat_fields state size), with s (record { table = table; rows = s.sessions.rows }) s.store s.flash_group) ≡ on_row r t stat s
   stat-is state size writing table pw ps pn pt =
-      (λ i. (reply (stat_fields (ps i) ((pn ∙ ap (λ (y : Bool). seen_length y (slot_at k s)) pw) i)), with s (record { table = table; rows = s.sessions.rows }) s.store s.flash_group)) ∙ stat-does table pt
+      (λ i. (reply (stat_fields (ps i) ((pn ∙ ap (λ (y : Bool). seen_length y (slot_at k s)) pw) i)), with s (record { table = table; rows =
+          s.sessions.rows }) s.store s.flash_group)) ∙ stat-does table pt

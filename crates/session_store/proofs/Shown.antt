@@ -45,10 +45,14 @@ in-region k offset len from n l p q h = go (dec_lt len offset)
         part-part (k * slot_size) slot_size offset n l (omega arith) ∙ ap (λ (m : ℕ). part (k * m + offset) n l) slot-size ∙ ap (λ (m : ℕ). part (k * 4096 + m) n l) (sym y)
 
 -- the part that is shown is what the session sees (rules 10.2 to 10.4)
-pub seen : (writing : Bool) (k requested offset len from n x y : ℕ) (committed staged : List ℕ) → len ≡ cond writing x y → y ≤ slot_size → x ≤ slot_size → n ≡ read_count requested offset len → from ≡ min offset len
-    → part (k * 4096 + from) n (cond writing staged committed) ≡ part offset (read_count requested offset (cond writing x y)) (cond writing ((block slot_size k).get staged) ((block slot_size k).get committed))
+pub seen : (writing : Bool) (k requested offset len from n x y : ℕ) (committed staged : List ℕ) → len ≡ cond writing x y → y ≤ slot_size → x ≤
+    slot_size → n ≡ read_count requested offset len → from ≡ min offset len
+    → part (k * 4096 + from) n (cond writing staged committed) ≡ part offset (read_count requested offset (cond writing x y)) (cond writing
+        ((block slot_size k).get staged) ((block slot_size k).get committed))
 seen writing k requested offset len from n x y committed staged e yl xl pn pf = go writing e
   where
-    go : (w : Bool) → len ≡ cond w x y → part (k * 4096 + from) n (cond w staged committed) ≡ part offset (read_count requested offset (cond w x y)) (cond w ((block slot_size k).get staged) ((block slot_size k).get committed))
+    go : (w : Bool) → len ≡ cond w x y → part (k * 4096 + from) n (cond w staged committed) ≡ part offset (read_count requested offset (cond w x y))
+        (cond w ((block slot_size k).get staged) ((block slot_size k).get committed))
     go true p = sym (in-region k offset len from n staged pf (omega arith) (omega arith)) ∙ ap (λ (m : ℕ). part offset m ((block slot_size k).get staged)) (pn ∙ ap (read_count requested offset) p)
-    go false p = sym (in-region k offset len from n committed pf (omega arith) (omega arith)) ∙ ap (λ (m : ℕ). part offset m ((block slot_size k).get committed)) (pn ∙ ap (read_count requested offset) p)
+    go false p = sym (in-region k offset len from n committed pf (omega arith) (omega arith)) ∙ ap (λ (m : ℕ). part offset m ((block slot_size k).get
+        committed)) (pn ∙ ap (read_count requested offset) p)

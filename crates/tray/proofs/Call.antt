@@ -113,7 +113,8 @@ module _ (b : List ℕ) (s : State) (a w : List ℕ) where
   tray-not h = ap (λ (y : Bool). cond y (tray_done (done_in (length a) (messages_in b) s) a w) (tray_refused (tray_code b s w) s a w)) (ne_eqb (tray_code b s w) success h)
 
   -- a property that both ways have
-  tray-has : (P : Tray → Type 0) → (tray_code b s w ≡ success → P (tray_done (done_in (length a) (messages_in b) s) a w)) → (tray_code b s w ≢ success → P (tray_refused (tray_code b s w) s a w)) → P (tray b s a w)
+  tray-has : (P : Tray → Type 0) → (tray_code b s w ≡ success → P (tray_done (done_in (length a) (messages_in b) s) a w)) → (tray_code b s w ≢ success
+      → P (tray_refused (tray_code b s w) s a w)) → P (tray b s a w)
   tray-has P f g = go (ℕ_discrete (tray_code b s w) success)
     where
       go : Dec (tray_code b s w ≡ success) → P (tray b s a w)

@@ -83,7 +83,8 @@ pub record Both (w : List ℕ) (first second whole : Tray) : Type 0 where
   pub results-are : whole.results ≡ laid (take first.done first.results ++ take second.done second.results) w
 
 -- what the two lists do, as two calls do it
-both-done : (d e : Done) (a w v : List ℕ) (first second whole : Tray) → first ≡ tray_done d a w → second ≡ tray_done e (drop (length d.responses) a) v → whole ≡ tray_done (done_then d e) a w → Both w first second whole
+both-done : (d e : Done) (a w v : List ℕ) (first second whole : Tray) → first ≡ tray_done d a w → second ≡ tray_done e (drop (length d.responses) a) v
+    → whole ≡ tray_done (done_then d e) a w → Both w first second whole
 both-done d e a w v first second whole p q r = record {
   second-accepted = ap (λ (t : Tray). t.code) q;
   whole-accepted = ap (λ (t : Tray). t.code) r;

@@ -18,7 +18,8 @@ unfolding looked_up row_found visited first ones_in
 lookups-found = (refl, (refl, refl))
 
 -- not found: no row has it; the row that has it is not used; it agrees with a row's in the lower half only; no row is used at all
-pub lookups-absent : (looked_up 8 0x8003 table ≡ says 0xCB 0 3) × ((looked_up 7 0x8002 table ≡ says 0xCB 0 2) × ((looked_up 0x10007 0x8003 table ≡ says 0xCB 0 3) × (looked_up 0 0 table ≡ says 0xCB 0 0)))
+pub lookups-absent : (looked_up 8 0x8003 table ≡ says 0xCB 0 3) × ((looked_up 7 0x8002 table ≡ says 0xCB 0 2) × ((looked_up 0x10007 0x8003 table ≡
+    says 0xCB 0 3) × (looked_up 0 0 table ≡ says 0xCB 0 0)))
 unfolding looked_up row_found visited first ones_in
 lookups-absent = (refl, (refl, (refl, refl)))
 

@@ -183,7 +183,8 @@ read-one-in (suc n) s at end v next z y e = go (ltb at end) (ltb (get_or s at 0)
     Later : Type 0
     Later = (u m : ℕ) → number_in n s (at + 1) end ≡ Value u m → ReadIn n s (at + 1) u m
 
-    last : (b : Bool) (u m : ℕ) → ltb (low + 128 * u) (2 ^ 64) ≡ b → at < end → 128 ≤ get_or s at 0 → ReadIn n s (at + 1) u m → cond b (Value (low + 128 * u) m) Bad ≡ Value v next → ReadIn (suc n) s at v next
+    last : (b : Bool) (u m : ℕ) → ltb (low + 128 * u) (2 ^ 64) ≡ b → at < end → 128 ≤ get_or s at 0 → ReadIn n s (at + 1) u m → cond b
+        (Value (low + 128 * u) m) Bad ≡ Value v next → ReadIn (suc n) s at v next
     last true u m p l h r e =
         let worth : low + 128 * u ≡ v = cc in
         let stop : m ≡ next = cc in
@@ -194,7 +195,8 @@ read-one-in (suc n) s at end v next z y e = go (ltb at end) (ltb (get_or s at 0)
     inner Bad p l h ih e = absurd (let q : ◌≡◌ {A = ℕ} 0 1 = cc in omega arith)
     inner (Value u m) p l h ih e = last (ltb (low + 128 * u) (2 ^ 64)) u m refl l h (ih u m p) e
 
-    go : (a b : Bool) → ltb at end ≡ a → ltb (get_or s at 0) 128 ≡ b → Later → cond a (cond b (Value (get_or s at 0) (at + 1)) (more low (number_in n s (at + 1) end))) Bad ≡ Value v next → ReadIn (suc n) s at v next
+    go : (a b : Bool) → ltb at end ≡ a → ltb (get_or s at 0) 128 ≡ b → Later → cond a (cond b (Value (get_or s at 0) (at + 1))
+        (more low (number_in n s (at + 1) end))) Bad ≡ Value v next → ReadIn (suc n) s at v next
     go true true p q ih e =
         let worth : get_or s at 0 ≡ v = cc in
         let stop : at + 1 ≡ next = cc in

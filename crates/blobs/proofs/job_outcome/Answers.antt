@@ -8,13 +8,16 @@ use Rattle.state.specs.State.{state_of}
 use Rattle.blobs.proofs.job_outcome.Goals as goal
 
 pub returns-then-not-sound : goal.returns-then-not-sound
-returns-then-not-sound c = no-outcome c.args.good ((let a = c.args in state_of a.control a.table.now a.names.now a.committed.now a.staged.now a.image.now a.hash.now)) (sym c.sound.ensures ∙ not-true _ (ap not c.if-not-sound.true))
+returns-then-not-sound c = no-outcome c.args.good ((let a = c.args in state_of a.control a.table.now a.names.now a.committed.now a.staged.now
+    a.image.now a.hash.now)) (sym c.sound.ensures ∙ not-true _ (ap not c.if-not-sound.true))
 
 pub end_job-requires : goal.end_job-requires
-end_job-requires c = (sound-of-test ((let a = c.args in state_of a.control a.table.now a.names.now a.committed.now a.staged.now a.image.now a.hash.now)) (sym c.sound.ensures ∙ not-false _ (ap not c.if-not-sound.false))).shape.table-size
+end_job-requires c = (sound-of-test ((let a = c.args in state_of a.control a.table.now a.names.now a.committed.now a.staged.now a.image.now
+    a.hash.now)) (sym c.sound.ensures ∙ not-false _ (ap not c.if-not-sound.false))).shape.table-size
 
 pub returns : goal.returns
 returns c =
-    outcome-taken c.args.good ((let a = c.args in state_of a.control a.table.now a.names.now a.committed.now a.staged.now a.image.now a.hash.now)) (sym c.sound.ensures ∙ not-false _ (ap not c.if-not-sound.false)) _ _ _
+    outcome-taken c.args.good ((let a = c.args in state_of a.control a.table.now a.names.now a.committed.now a.staged.now a.image.now a.hash.now))
+        (sym c.sound.ensures ∙ not-false _ (ap not c.if-not-sound.false)) _ _ _
     (c.end_job.ensures 0 c.args.names.now c.args.committed.now c.args.staged.now c.args.image.now c.args.hash.now [])
     (c.code_of.ensures [])

@@ -32,7 +32,8 @@ overflow_add-result c = omega (arith, (next (goal.at.overflow_add-result c).In-l
 pub returns-then-matches : goal.returns-then-matches
 returns-then-matches c =
     let a = c.args in
-    search-hit a.w a.rows a.table.now c.loop-left.visits ((count_trailing_zeros 32 c.loop-left.left)) (next (goal.at.returns-then-matches c).In-loop-left) (sym (tested (goal.at.returns-then-matches c).After-matches) ∙ c.if-matches.true)
+    search-hit a.w a.rows a.table.now c.loop-left.visits ((count_trailing_zeros 32 c.loop-left.left)) (next (goal.at.returns-then-matches
+        c).In-loop-left) (sym (tested (goal.at.returns-then-matches c).After-matches) ∙ c.if-matches.true)
 
 pub overflow_add-visits : goal.overflow_add-visits
 overflow_add-visits c = omega (arith, (next (goal.at.overflow_add-visits c).In-loop-left).few)

@@ -18,7 +18,8 @@ loop-blob-init c = ap (λ (b : ℕ). flash_from (behind b) b c.args.phase c.args
 
 pub returns-then-left-eq0 : goal.returns-then-left-eq0
 returns-then-left-eq0 c =
-    sym (c.loop-blob.invariant ∙ at_first c.args.phase c.loop-blob.blob (omega arith) c.loop-blob.left (is-listed (goal.at.returns-then-left-eq0 c).After-flash_listed ∙ c.if-flash_listed.true) c.if-left-eq0.true
+    sym (c.loop-blob.invariant ∙ at_first c.args.phase c.loop-blob.blob (omega arith) c.loop-blob.left (is-listed (goal.at.returns-then-left-eq0
+        c).After-flash_listed ∙ c.if-flash_listed.true) c.if-left-eq0.true
     ∙ ap Flash (sym c.kind_of-kind.ensures))
 
 pub loop-blob-preserved : goal.loop-blob-preserved

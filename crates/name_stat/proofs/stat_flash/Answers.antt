@@ -11,7 +11,8 @@ use Rattle.state.specs.declared.row.Wanted.TheVariants.{OnBlob}
 use Rattle.name_stat.proofs.stat_flash.Goals as goal
 
 pub returns-then-not-flash_listed : goal.returns-then-not-flash_listed
-returns-then-not-flash_listed c = λ m n d g i h _. let a = c.args in flash-hidden a.kind m (state_of a.control a.table.now n d g i h) (sym c.flash_listed.ensures ∙ not-true _ (ap not c.if-not-flash_listed.true))
+returns-then-not-flash_listed c = λ m n d g i h _. let a = c.args in flash-hidden a.kind m (state_of a.control a.table.now n d g i h)
+    (sym c.flash_listed.ensures ∙ not-true _ (ap not c.if-not-flash_listed.true))
 
 pub returns-in_default : goal.returns-in_default
 returns-in_default c =

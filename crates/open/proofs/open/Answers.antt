@@ -13,7 +13,8 @@ swept-test : (t : ℕ) (s x : State) → is_sound s ≡ true → x ≡ swept t s
 swept-test t s x h e = ap is_sound e ∙ test-of-sound (swept t s) (swept-sound t s (sound-of-test s h))
 
 pub sweep-after-requires : goal.sweep-after-requires
-sweep-after-requires c = let g = (sound-of-test ((let a = c.args in state_of a.control a.table.now a.names.now a.committed.now a.staged.now a.image.now a.hash.now)) c.requires.0).shape in (g.table-size, (g.names-size, (g.committed-size, (g.staged-size, (g.image-size, g.hash-size)))))
+sweep-after-requires c = let g = (sound-of-test ((let a = c.args in state_of a.control a.table.now a.names.now a.committed.now a.staged.now
+    a.image.now a.hash.now)) c.requires.0).shape in (g.table-size, (g.names-size, (g.committed-size, (g.staged-size, (g.image-size, g.hash-size)))))
 
 pub open_swept-requires : goal.open_swept-requires
 open_swept-requires c =

@@ -16,4 +16,5 @@ pub returns : goal.returns
 returns c =
     λ t n i h.
     let a = c.args in
-    held-written a.k a.flags ((let a = c.args in state_of a.control t n a.committed.now a.staged.now i h)) (sym c.writes_with.ensures ∙ not-false _ (ap not c.if-not-writes_with.false)) _ c.copy_region.ensures
+    held-written a.k a.flags ((let a = c.args in state_of a.control t n a.committed.now a.staged.now i h)) (sym c.writes_with.ensures ∙ not-false _
+        (ap not c.if-not-writes_with.false)) _ c.copy_region.ensures

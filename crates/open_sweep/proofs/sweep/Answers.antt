@@ -7,7 +7,8 @@ use Rattle.state.specs.State.{state_of}
 use Rattle.open_sweep.proofs.sweep.Goals as goal
 
 pub returns-then-not-is_due : goal.returns-then-not-is_due
-returns-then-not-is_due c = not-due c.args.clock ((let a = c.args in state_of a.control a.table.now a.names.now a.committed.now a.staged.now a.image.now a.hash.now)) (sym c.is_due.ensures ∙ not-true _ (ap not c.if-not-is_due.true))
+returns-then-not-is_due c = not-due c.args.clock ((let a = c.args in state_of a.control a.table.now a.names.now a.committed.now a.staged.now
+    a.image.now a.hash.now)) (sym c.is_due.ensures ∙ not-true _ (ap not c.if-not-is_due.true))
 
 pub loop-r-init : goal.loop-r-init
 loop-r-init c = (omega arith, (c.requires, none-swept c.args.clock ((let a = c.args in state_of a.control a.table.now a.names.now a.committed.now a.staged.now a.image.now a.hash.now))))
@@ -33,11 +34,13 @@ loop-r-preserved c = (
       ),
     ),
     one_more
-        c.args.clock c.loop-r.r ((let a = c.args in state_of a.control a.table.now a.names.now a.committed.now a.staged.now a.image.now a.hash.now)) _ _ c.loop-r.invariant.1.1 c.sweep_row-next.ensures,
+        c.args.clock c.loop-r.r ((let a = c.args in state_of a.control a.table.now a.names.now a.committed.now a.staged.now a.image.now a.hash.now)) _
+            _ c.loop-r.invariant.1.1 c.sweep_row-next.ensures,
   ),
 )
 
 pub returns : goal.returns
 returns c =
-    all-swept c.args.clock ((let a = c.args in state_of a.control a.table.now a.names.now a.committed.now a.staged.now a.image.now a.hash.now)) (sym c.is_due.ensures ∙ not-false _ (ap not c.if-not-is_due.false))
+    all-swept c.args.clock ((let a = c.args in state_of a.control a.table.now a.names.now a.committed.now a.staged.now a.image.now a.hash.now))
+        (sym c.is_due.ensures ∙ not-false _ (ap not c.if-not-is_due.false))
     c.loop-r.r _ (omega arith) c.loop-r.invariant.1.1

@@ -31,14 +31,16 @@ pub returns-then-not-body_fits : goal.returns-then-not-body_fits
 returns-then-not-body_fits c = wrong-body _ (passed (goal.at.returns-then-not-body_fits c).Else-not-is_oem) c.if-sub-gt-WRITE_META.false _ c.body_fits.ensures (ap not c.if-not-body_fits.true)
 
 pub returns-then-sub-eq-COUNT : goal.returns-then-sub-eq-COUNT
-returns-then-sub-eq-COUNT c = count-is _ (passed (goal.at.returns-then-sub-eq-COUNT c).Else-not-is_oem) c.if-sub-gt-WRITE_META.false (fits (goal.at.returns-then-sub-eq-COUNT c).Else-not-body_fits) c.if-sub-eq-COUNT.true
+returns-then-sub-eq-COUNT c = count-is _ (passed (goal.at.returns-then-sub-eq-COUNT c).Else-not-is_oem) c.if-sub-gt-WRITE_META.false
+    (fits (goal.at.returns-then-sub-eq-COUNT c).Else-not-body_fits) c.if-sub-eq-COUNT.true
 
 pub crc_fits-requires : goal.crc_fits-requires
 crc_fits-requires c = omega (arith, some-body _ _ c.if-sub-eq-COUNT.false (fits (goal.at.crc_fits-requires c).Else-not-body_fits))
 
 pub returns-then-not-crc_fits : goal.returns-then-not-crc_fits
 returns-then-not-crc_fits c =
-    wrong-crc _ (passed (goal.at.returns-then-not-crc_fits c).Else-not-is_oem) c.if-sub-gt-WRITE_META.false (fits (goal.at.returns-then-not-crc_fits c).Else-not-body_fits) _ c.fields_of-f.ensures _ c.crc_fits.ensures c.if-sub-eq-COUNT.false
+    wrong-crc _ (passed (goal.at.returns-then-not-crc_fits c).Else-not-is_oem) c.if-sub-gt-WRITE_META.false (fits (goal.at.returns-then-not-crc_fits
+        c).Else-not-body_fits) _ c.fields_of-f.ensures _ c.crc_fits.ensures c.if-sub-eq-COUNT.false
     (ap not c.if-not-crc_fits.true)
 
 pub request_of-requires : goal.request_of-requires
@@ -46,5 +48,6 @@ request_of-requires c = ((omega arith, omega arith), (fits (goal.at.request_of-r
 
 pub returns : goal.returns
 returns c =
-    request-is _ (passed (goal.at.returns c).Else-not-is_oem) c.if-sub-gt-WRITE_META.false (fits (goal.at.returns c).Else-not-body_fits) _ c.fields_of-f.ensures _ c.crc_fits.ensures c.if-sub-eq-COUNT.false _
+    request-is _ (passed (goal.at.returns c).Else-not-is_oem) c.if-sub-gt-WRITE_META.false (fits (goal.at.returns c).Else-not-body_fits) _
+        c.fields_of-f.ensures _ c.crc_fits.ensures c.if-sub-eq-COUNT.false _
     (ap not c.if-not-crc_fits.false) c.request_of.ensures

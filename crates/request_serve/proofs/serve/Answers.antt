@@ -27,8 +27,10 @@ inside c {q} e = inside_of c.args.message.now c.args.asked q c.requires.1.0 e
 -- the request is the one of the arm
 answers : (c : Start) {said : Said} {x : Reply × State} {b : List ℕ} {q : Request} → c.args.asked ≡ q
     → Serves said x b q c.args.clock c.args.message.now ((let a = c.args in state_of a.control a.table.now a.names.now a.committed.now a.staged.now a.image.now a.hash.now)) c.args.answer.now
-    → ((x, b) ≡ readied c.args.asked c.args.clock c.args.message.now ((let a = c.args in state_of a.control a.table.now a.names.now a.committed.now a.staged.now a.image.now a.hash.now)) c.args.answer.now) × (fields_length said ≤ read_most)
-answers c {said} {x} {b} {q} e h = asked_is said x c.args.answer.now b c.args.clock c.args.message.now ((let a = c.args in state_of a.control a.table.now a.names.now a.committed.now a.staged.now a.image.now a.hash.now)) q c.args.asked e h
+    → ((x, b) ≡ readied c.args.asked c.args.clock c.args.message.now ((let a = c.args in state_of a.control a.table.now a.names.now a.committed.now
+        a.staged.now a.image.now a.hash.now)) c.args.answer.now) × (fields_length said ≤ read_most)
+answers c {said} {x} {b} {q} e h = asked_is said x c.args.answer.now b c.args.clock c.args.message.now ((let a = c.args in state_of a.control
+    a.table.now a.names.now a.committed.now a.staged.now a.image.now a.hash.now)) q c.args.asked e h
 
 pub count-requires : goal.count-requires
 count-requires c = (shape (goal.at.count-requires c).Start).marks-small
@@ -44,7 +46,8 @@ open-requires c =
 pub read-requires : goal.read-requires
 read-requires c =
     let g = shape (goal.at.read-requires c).Start in
-    (g.table-size, (g.committed-size, (g.staged-size, (c.requires.1.1, lengths-fit ((let a = c.args in state_of a.control a.table.now a.names.now a.committed.now a.staged.now a.image.now a.hash.now)) c.requires.0))))
+    (g.table-size, (g.committed-size, (g.staged-size, (c.requires.1.1, lengths-fit ((let a = c.args in state_of a.control a.table.now a.names.now
+        a.committed.now a.staged.now a.image.now a.hash.now)) c.requires.0))))
 
 pub slice_bounds-write-count : goal.slice_bounds-write-count
 slice_bounds-write-count c =
@@ -90,8 +93,10 @@ pub returns-in-Count : goal.returns-in-Count
 unfolding answered
 returns-in-Count c =
     let a = c.args in
-    answers (goal.at.returns-in-Count c).Start c.in-Count.is (plain _ _ _ _ _ refl c.count.result ((let a = c.args in state_of a.control a.table.now a.names.now a.committed.now a.staged.now a.image.now a.hash.now))
-    (λ (b : List ℕ). ap (λ (r : Reply). (r, (let a = c.args in state_of a.control a.table.now a.names.now a.committed.now a.staged.now a.image.now a.hash.now))) (c.count.ensures a.table.now a.names.now a.committed.now a.staged.now a.image.now a.hash.now b)))
+    answers (goal.at.returns-in-Count c).Start c.in-Count.is (plain _ _ _ _ _ refl c.count.result ((let a = c.args in state_of a.control a.table.now
+        a.names.now a.committed.now a.staged.now a.image.now a.hash.now))
+    (λ (b : List ℕ). ap (λ (r : Reply). (r, (let a = c.args in state_of a.control a.table.now a.names.now a.committed.now a.staged.now a.image.now
+        a.hash.now))) (c.count.ensures a.table.now a.names.now a.committed.now a.staged.now a.image.now a.hash.now b)))
 
 pub returns-in-Enumerate : goal.returns-in-Enumerate
 unfolding answered
@@ -99,7 +104,8 @@ returns-in-Enumerate c =
     let a = c.args in
     let e = c.enumerate.ensures a.table.now a.committed.now a.staged.now a.image.now a.hash.now in
     answers (goal.at.returns-in-Enumerate c).Start c.in-Enumerate.is
-    (laying _ _ _ _ _ refl c.enumerate.result ((let a = c.args in state_of a.control a.table.now a.names.now a.committed.now a.staged.now a.image.now a.hash.now)) _ (ap (λ (r : Reply). (r, (let a = c.args in state_of a.control a.table.now a.names.now a.committed.now a.staged.now a.image.now a.hash.now))) e.says) e.short e.lays)
+    (laying _ _ _ _ _ refl c.enumerate.result ((let a = c.args in state_of a.control a.table.now a.names.now a.committed.now a.staged.now a.image.now
+        a.hash.now)) _ (ap (λ (r : Reply). (r, (let a = c.args in state_of a.control a.table.now a.names.now a.committed.now a.staged.now a.image.now a.hash.now))) e.says) e.short e.lays)
 
 pub returns-in-Open : goal.returns-in-Open
 unfolding answered
@@ -118,7 +124,8 @@ unfolding answered
 returns-in-Write c =
     let a = c.args in
     answers (goal.at.returns-in-Write c).Start c.in-Write.is (plain _ _ _ _ _ refl c.write.result.said _
-    (λ (b : List ℕ). write-rest _ a.clock _ _ a.message.now ((let a = c.args in state_of a.control a.table.now a.names.now a.committed.now a.staged.now a.image.now a.hash.now)) _ (c.write.ensures a.names.now a.committed.now b)))
+    (λ (b : List ℕ). write-rest _ a.clock _ _ a.message.now ((let a = c.args in state_of a.control a.table.now a.names.now a.committed.now
+        a.staged.now a.image.now a.hash.now)) _ (c.write.ensures a.names.now a.committed.now b)))
 
 pub returns-in-Commit : goal.returns-in-Commit
 unfolding answered
@@ -142,8 +149,10 @@ pub returns-in-Stat : goal.returns-in-Stat
 unfolding answered
 returns-in-Stat c =
     let a = c.args in
-    answers (goal.at.returns-in-Stat c).Start c.in-Stat.is (plain _ _ _ _ _ refl c.stat.result ((let a = c.args in state_of a.control a.table.now a.names.now a.committed.now a.staged.now a.image.now a.hash.now))
-    (λ (b : List ℕ). ap (λ (r : Reply). (r, (let a = c.args in state_of a.control a.table.now a.names.now a.committed.now a.staged.now a.image.now a.hash.now))) (c.stat.ensures a.committed.now a.staged.now a.image.now a.hash.now b)))
+    answers (goal.at.returns-in-Stat c).Start c.in-Stat.is (plain _ _ _ _ _ refl c.stat.result ((let a = c.args in state_of a.control a.table.now
+        a.names.now a.committed.now a.staged.now a.image.now a.hash.now))
+    (λ (b : List ℕ). ap (λ (r : Reply). (r, (let a = c.args in state_of a.control a.table.now a.names.now a.committed.now a.staged.now a.image.now
+        a.hash.now))) (c.stat.ensures a.committed.now a.staged.now a.image.now a.hash.now b)))
 
 pub returns-in-SessionStat : goal.returns-in-SessionStat
 unfolding answered

@@ -40,7 +40,8 @@ room c =
 
 pub answer_one-done-requires : goal.answer_one-done-requires
 answer_one-done-requires c =
-    record { able_value = c.loop-text.invariant.8; len_in_bounds = ((found_in (record-found (goal.at.answer_one-done-requires c).In-Whole)).0, rw c.loop-text.invariant.0.as_long (room (goal.at.answer_one-done-requires c).In-Whole)) }
+    record { able_value = c.loop-text.invariant.8; len_in_bounds = ((found_in (record-found (goal.at.answer_one-done-requires c).In-Whole)).0, rw
+        c.loop-text.invariant.0.as_long (room (goal.at.answer_one-done-requires c).In-Whole)) }
 
 pub loop-text-smaller : goal.loop-text-smaller
 loop-text-smaller c =

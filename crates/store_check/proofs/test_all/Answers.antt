@@ -33,7 +33,8 @@ loop-at-smaller-then-number-eq-STORE_BLOB c = here-less (here (goal.at.loop-at-s
 
 pub loop-at-preserved-then-number-eq-STORE_BLOB : goal.loop-at-preserved-then-number-eq-STORE_BLOB
 loop-at-preserved-then-number-eq-STORE_BLOB c =
-    testing-blob _ c.loop-at.at _ _ _ c.loop-at.invariant _ _ _ _ (here (goal.at.loop-at-preserved-then-number-eq-STORE_BLOB c).In-Whole) c.test_blob-t.result.name c.test_blob-t.result.size c.if-number-eq-STORE_BLOB.true
+    testing-blob _ c.loop-at.at _ _ _ c.loop-at.invariant _ _ _ _ (here (goal.at.loop-at-preserved-then-number-eq-STORE_BLOB c).In-Whole)
+        c.test_blob-t.result.name c.test_blob-t.result.size c.if-number-eq-STORE_BLOB.true
     c.test_blob-t.ensures
 
 pub loop-at-smaller : goal.loop-at-smaller

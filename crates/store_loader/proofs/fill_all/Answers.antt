@@ -40,7 +40,8 @@ loop-at-smaller-then-number-eq-STORE_BLOB c = here-less (here (goal.at.loop-at-s
 
 pub loop-at-preserved-then-number-eq-STORE_BLOB : goal.loop-at-preserved-then-number-eq-STORE_BLOB
 loop-at-preserved-then-number-eq-STORE_BLOB c =
-    filled_more _ _ _ _ _ _ _ _ _ c.loop-at.invariant _ _ _ _ (here (goal.at.loop-at-preserved-then-number-eq-STORE_BLOB c).In-Whole) c.if-number-eq-STORE_BLOB.true _ _ c.fill_slot-kept.result c.fill_slot-kept.auto.names
+    filled_more _ _ _ _ _ _ _ _ _ c.loop-at.invariant _ _ _ _ (here (goal.at.loop-at-preserved-then-number-eq-STORE_BLOB c).In-Whole)
+        c.if-number-eq-STORE_BLOB.true _ _ c.fill_slot-kept.result c.fill_slot-kept.auto.names
     c.fill_slot-kept.auto.committed c.fill_slot-kept.ensures
 
 pub loop-at-smaller : goal.loop-at-smaller

@@ -42,7 +42,8 @@ pub returns-then-not-known : goal.returns-then-not-known
 returns-then-not-known c =
     let a = c.args in
     judged-new (scans_from a.file.now 0) a.classes a.class ((let a = c.args in scan_between a.file.now a.start a.stop)) a.filter.now c.mark.new.filter
-    (subst (Marked a.filter.now c.mark.new.filter) (hashed (goal.at.returns-then-not-known c).After-hash_name-hash) c.mark.ensures) (ap (seen_in a.filter.now) (sym (hashed (goal.at.returns-then-not-known c).After-hash_name-hash)) ∙ sym c.seen-known.ensures ∙ not-true _ (ap not c.if-not-known.true))
+    (subst (Marked a.filter.now c.mark.new.filter) (hashed (goal.at.returns-then-not-known c).After-hash_name-hash) c.mark.ensures)
+        (ap (seen_in a.filter.now) (sym (hashed (goal.at.returns-then-not-known c).After-hash_name-hash)) ∙ sym c.seen-known.ensures ∙ not-true _ (ap not c.if-not-known.true))
 
 pub stands_once-requires : goal.stands_once-requires
 stands_once-requires c = let f = c.last_field-name.ensures in (f.ordered, f.inside)
@@ -50,5 +51,6 @@ stands_once-requires c = let f = c.last_field-name.ensures in (f.ordered, f.insi
 pub returns : goal.returns
 returns c =
     let a = c.args in
-    judged-known (scans_from a.file.now 0) a.classes a.class ((let a = c.args in scan_between a.file.now a.start a.stop)) a.filter.now c.mark.new.filter (subst (Marked a.filter.now c.mark.new.filter) (hashed (goal.at.returns c).After-hash_name-hash) c.mark.ensures) c.stands_once.result
+    judged-known (scans_from a.file.now 0) a.classes a.class ((let a = c.args in scan_between a.file.now a.start a.stop)) a.filter.now
+        c.mark.new.filter (subst (Marked a.filter.now c.mark.new.filter) (hashed (goal.at.returns c).After-hash_name-hash) c.mark.ensures) c.stands_once.result
     (c.stands_once.ensures ∙ ap (λ (n : List ℕ). leb (count_named n (scans_from a.file.now 0)) 1) c.last_field-name.ensures.value)

@@ -32,7 +32,8 @@ blob_apart-requires c =
 
 pub returns-then-not-blob_apart : goal.returns-then-not-blob_apart
 returns-then-not-blob_apart c =
-    passed-no _ _ _ _ _ c.loop-at.invariant.1 _ _ (scans-blob (here (goal.at.returns-then-not-blob_apart c).In-Whole) c.if-number-eq-STORE_BLOB.true) _ _ c.blob_apart.ensures (not-true _ (ap not c.if-not-blob_apart.true))
+    passed-no _ _ _ _ _ c.loop-at.invariant.1 _ _ (scans-blob (here (goal.at.returns-then-not-blob_apart c).In-Whole) c.if-number-eq-STORE_BLOB.true)
+        _ _ c.blob_apart.ensures (not-true _ (ap not c.if-not-blob_apart.true))
 
 pub loop-at-smaller-else-not-blob_apart : goal.loop-at-smaller-else-not-blob_apart
 loop-at-smaller-else-not-blob_apart c = here-less (here (goal.at.loop-at-smaller-else-not-blob_apart c).In-Whole)
@@ -41,7 +42,8 @@ pub loop-at-preserved-else-not-blob_apart : goal.loop-at-preserved-else-not-blob
 loop-at-preserved-else-not-blob_apart c =
     (
       c.blob_apart.ensures.long ∙ c.loop-at.invariant.0,
-      passed-more _ _ _ _ _ c.loop-at.invariant.1 _ _ (scans-blob (here (goal.at.loop-at-preserved-else-not-blob_apart c).In-Whole) c.if-number-eq-STORE_BLOB.true) _ _ c.blob_apart.ensures (not-false _ (ap not c.if-not-blob_apart.false)),
+      passed-more _ _ _ _ _ c.loop-at.invariant.1 _ _ (scans-blob (here (goal.at.loop-at-preserved-else-not-blob_apart c).In-Whole)
+          c.if-number-eq-STORE_BLOB.true) _ _ c.blob_apart.ensures (not-false _ (ap not c.if-not-blob_apart.false)),
     )
 
 pub loop-at-smaller : goal.loop-at-smaller

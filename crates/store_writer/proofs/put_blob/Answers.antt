@@ -8,7 +8,8 @@ use Rattle.wire.specs.Written.{written_all}
 use Rattle.store_writer.proofs.put_blob.Goals as goal
 use Rattle.store_writer.proofs.put_blob.Goals.{After-head_size-2, After-put_field-next, After-put_head-at}
 
-inner-is : (c : After-head_size-2) → (let a = c.args in c.head_size.result + length a.name.now + (c.head_size-2.result + length a.scan.now)) ≡ length (written_all (blob_contents ((let a = c.args in record { name = a.name.now; bytes = a.scan.now }))))
+inner-is : (c : After-head_size-2) → (let a = c.args in c.head_size.result + length a.name.now + (c.head_size-2.result + length a.scan.now)) ≡ length
+    (written_all (blob_contents ((let a = c.args in record { name = a.name.now; bytes = a.scan.now }))))
 inner-is c = omega (arith, blob-size ((let a = c.args in record { name = a.name.now; bytes = a.scan.now })), c.head_size.ensures.0, c.head_size-2.ensures.0)
 
 -- the head has at most three bytes, and so has that of the name's field
@@ -42,12 +43,15 @@ pub put_head-at-requires : goal.put_head-at-requires
 put_head-at-requires c = search (rules, name-size, slot-size, buffer-size)
 
 pub put_field-next-requires : goal.put_field-next-requires
-put_field-next-requires c = (omega arith, (omega (arith, name-size, slot-size), omega (arith, head-end (goal.at.put_field-next-requires c).After-put_head-at, c.put_head-at.auto.dst, name-size, slot-size, buffer-size)))
+put_field-next-requires c = (omega arith, (omega (arith, name-size, slot-size), omega (arith, head-end (goal.at.put_field-next-requires
+    c).After-put_head-at, c.put_head-at.auto.dst, name-size, slot-size, buffer-size)))
 
 pub put_field-requires : goal.put_field-requires
 put_field-requires c =
-    (omega arith, (omega (arith, name-size, slot-size), omega (arith, head-end (goal.at.put_field-requires c).After-put_head-at, c.put_head-at.auto.dst, name-size, slot-size, buffer-size, name-end (goal.at.put_field-requires c).After-put_field-next, c.put_field-next.auto.dst)))
+    (omega arith, (omega (arith, name-size, slot-size), omega (arith, head-end (goal.at.put_field-requires c).After-put_head-at,
+        c.put_head-at.auto.dst, name-size, slot-size, buffer-size, name-end (goal.at.put_field-requires c).After-put_field-next, c.put_field-next.auto.dst)))
 
 pub returns : goal.returns
 returns c =
-    blob-put ((let a = c.args in record { name = a.name.now; bytes = a.scan.now })) _ (inner-is (goal.at.returns c).After-head_size-2) c.put_head-at.ensures c.put_field-next.ensures c.put_field.ensures
+    blob-put ((let a = c.args in record { name = a.name.now; bytes = a.scan.now })) _ (inner-is (goal.at.returns c).After-head_size-2)
+        c.put_head-at.ensures c.put_field-next.ensures c.put_field.ensures

@@ -21,7 +21,8 @@ returns-then-part-eq0 c =
     let n : c.put_field-len.result ≡ length (written (base_field, base)) = c.put_field-len.ensures.0 ∙ zero-add _ in (
       λ table staged image hash.
           call-laid (written (base_field, base)) b c.put_field-len.new.dst c.put_field-len.result _
-          (part-base c.args.part ((let a = c.args in state_of a.control table a.names.now a.committed.now staged image hash)) c.if-part-eq0.true) n c.put_field-len.ensures.1 (omega (arith, base-fits)),
+          (part-base c.args.part ((let a = c.args in state_of a.control table a.names.now a.committed.now staged image hash)) c.if-part-eq0.true) n
+              c.put_field-len.ensures.1 (omega (arith, base-fits)),
       omega (arith, base-fits),
     )
 

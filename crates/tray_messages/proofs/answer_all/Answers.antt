@@ -78,7 +78,8 @@ pub loop-done-preserved : goal.loop-done-preserved
 loop-done-preserved c =
     let l = c.loop-done in
     let k = c.answer_at-reply.auto in (
-      goes_to _ _ _ _ c.requires.results_len _ _ _ _ _ _ l.invariant.0 (record-found (goal.at.loop-done-preserved c).In-Whole) (few (goal.at.loop-done-preserved c).In-Whole) (room (goal.at.loop-done-preserved c).In-Whole) c.answer_at-reply.ensures c.packed.ensures.value,
+      goes_to _ _ _ _ c.requires.results_len _ _ _ _ _ _ l.invariant.0 (record-found (goal.at.loop-done-preserved c).In-Whole)
+          (few (goal.at.loop-done-preserved c).In-Whole) (room (goal.at.loop-done-preserved c).In-Whole) c.answer_at-reply.ensures c.packed.ensures.value,
       k.table ∙ l.invariant.1,
       k.names ∙ l.invariant.2,
       k.committed ∙ l.invariant.3,
