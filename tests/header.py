@@ -26,8 +26,8 @@ import tempfile
 ROOT = pathlib.Path(__file__).resolve().parent.parent
 HEADER = ROOT / "include" / "kramsnep.h"
 PREFIX = "KRAMSNEP_"
-SPECS = ("protocol/specs/Numbers", "protocol/specs/Decode", "protocol/specs/Names", "rules/specs/Messages", "crc/specs/Crc", "capi_control/specs/Words", "capi_calls/specs/Call",
-         "store_file/specs/Messages", "store_file/specs/Saved", "json/specs/Grammar", "config/specs/Profile", "config/specs/Fields", "records/specs/Records", "tray/specs/Tray")
+SPECS = ("protocol/specs/Numbers", "protocol/specs/Decode", "protocol/specs/Names", "rules/proofs/Messages", "crc/specs/Crc", "capi_control/specs/Words", "capi_calls/specs/Call",
+         "store_file/specs/Messages", "store_file/specs/Saved", "json_grammar/specs/Grammar", "config/specs/Profile", "config/specs/Fields", "records/specs/Records", "tray/specs/Tray")
 CODE = ("protocol", "state", "crc", "open_sweep", "capi_control", "capi", "store_file", "store_writer", "run_store", "config_profile", "config_reader", "records", "tray_form")
 C_TYPES = {"u8": "uint8_t", "u32": "uint32_t", "u64": "uint64_t", "usize": "size_t"}
 WORDS = "no one two three four five six seven eight nine ten eleven twelve".split()
@@ -37,7 +37,7 @@ STRICT = ("-Wall", "-Wextra", "-Wpedantic", "-Werror")
 # What each number of the header is by the definitions: one or several, all of the same value. A name with a capital letter and `::` is a constant of the code.
 NUMBERS = {
     "MESSAGE_SIZE": "message_size, protocol::MESSAGE_SIZE", "OEM_SIZE": "len(oem), protocol::OEM_SIZE", "SUBCOMMAND_AT": "len(oem), subcommand",
-    "HEADER_SIZE": "header_size, protocol::HEADER_SIZE", "CRC_AT": "header_size", "CRC_SIZE": "crc_size", "FIELDS_AT": "fieldsAt, protocol::FIELDS_AT",
+    "HEADER_SIZE": "header_size, protocol::HEADER_SIZE", "CRC_AT": "header_size", "CRC_SIZE": "crc_size", "FIELDS_AT": "fields_at, protocol::FIELDS_AT",
     "CRC_START": "start, crc::START", "CRC_POLYNOMIAL": "poly",
     "COMMAND_GET_COUNT": "count_command, protocol::Subcommand::COUNT", "COMMAND_ENUMERATE": "enumerate_command, protocol::Subcommand::ENUMERATE",
     "COMMAND_OPEN": "open_command, protocol::Subcommand::OPEN", "COMMAND_READ": "read_command, protocol::Subcommand::READ",
@@ -54,8 +54,8 @@ NUMBERS = {
     "OFFSET_AT": "Read.offset, Write.offset", "READ_COUNT_AT": "Read.count", "WRITE_DATA_AT": "Write.data", "COMMIT_LENGTH_AT": "Commit.commitLength",
     "COUNT_AT": "Count.reply.count", "READ_DATA_AT": "Read.reply.data", "STATE_AT": "Stat.reply.state, SessionStat.reply.state", "SIZE_AT": "Stat.reply.size, SessionStat.reply.size",
     "METADATA_LENGTH_AT": "Stat.reply.metadataLength, SessionStat.reply.metadataLength",
-    "WRITE_MOST": "write_most, message_size - Write.data", "READ_MOST": "read_most, protocol::READ_MOST, message_size - fieldsAt",
-    "FLAGS_READ": "readOnly, protocol::Flags::READ", "FLAGS_WRITE": "write_only, protocol::Flags::WRITE", "FLAGS_READ_WRITE": "read_write, protocol::Flags::READ_WRITE",
+    "WRITE_MOST": "write_most, message_size - Write.data", "READ_MOST": "read_most, protocol::READ_MOST, message_size - fields_at",
+    "FLAGS_READ": "read_only, protocol::Flags::READ", "FLAGS_WRITE": "write_only, protocol::Flags::WRITE", "FLAGS_READ_WRITE": "read_write, protocol::Flags::READ_WRITE",
     "STATE_OPEN_READ": "state_open_read, protocol::BlobState::OPEN_READ", "STATE_OPEN_WRITE": "state_open_write, protocol::BlobState::OPEN_WRITE",
     "STATE_COMMITTING": "state_committing, protocol::BlobState::COMMITTING", "STATE_COMMITTED": "state_committed, protocol::BlobState::COMMITTED",
     "STATE_COMMIT_ERROR": "state_commit_error, protocol::BlobState::COMMIT_ERROR",
@@ -78,9 +78,9 @@ NUMBERS = {
     "CONTROL_ROWS": "word.rows", "CONTROL_SLOTS": "word.slots", "CONTROL_COMMITTED": "word.marks",
     "CONTROL_COMMITTED_LENGTHS": "committed_lens_at, capi_control::COMMITTED_LENS_AT", "CONTROL_STAGED_LENGTHS": "staged_lens_at, capi_control::STAGED_LENS_AT",
     "CONTROL_PHASE": "phase_at, capi_control::PHASE_AT", "CONTROL_IMAGE_LENGTH": "image_len_at, capi_control::IMAGE_LEN_AT", "CONTROL_HASH_LENGTH": "hash_len_at, capi_control::HASH_LEN_AT",
-    "CONTROL_NEXT": "nextAt, capi_control::NEXT_AT", "CONTROL_LAST_SWEEP": "last_sweep_at, capi_control::LAST_SWEEP_AT",
+    "CONTROL_NEXT": "next_at, capi_control::NEXT_AT", "CONTROL_LAST_SWEEP": "last_sweep_at, capi_control::LAST_SWEEP_AT",
     "PHASE_IDLE": "phase_number.Idle", "PHASE_UPLOADING": "phase_number.Uploading", "PHASE_VERIFIED": "phase_number.Verified, capi_control::VERIFIED",
-    "ROWS": "row_count, state::ROWS", "ROW_WORDS": "row_words, state::ROW_WORDS", "ROW_IDENTIFIER": "idOf", "ROW_BLOB": "blob_of", "ROW_FLAGS": "wordOf", "ROW_STAMP": "stamp_of",
+    "ROWS": "row_count, state::ROWS", "ROW_WORDS": "row_words, state::ROW_WORDS", "ROW_IDENTIFIER": "id_of", "ROW_BLOB": "blob_of", "ROW_FLAGS": "word_of", "ROW_STAMP": "stamp_of",
     "SLOTS": "slot_count, state::SLOTS", "NAME_SIZE": "name_size, state::NAME_SIZE", "SLOT_SIZE": "slot_size, state::SLOT_SIZE",
     "BLOB_IMAGE": "image_blob, flash_number.Image", "BLOB_HASH": "hash_blob, flash_number.Hash", "BLOB_VERIFY": "verify_blob, flash_number.Verify",
     "BLOB_UPDATE": "update_blob, flash_number.Update", "BLOB_CLEANUP": "cleanup_blob, flash_number.Cleanup",
@@ -88,8 +88,8 @@ NUMBERS = {
     "JOB_FAILED": "failed, state::Status::FAILED", "VERDICT_FAILED": "job_failed, capi::JOB_FAILED", "VERDICT_GOOD": "job_good, capi::JOB_GOOD",
     "FILE_BASE": "base_field, store_file::STORE_BASE", "FILE_BLOB": "blob_field, store_file::STORE_BLOB", "FILE_BLOB_NAME": "name_field, store_file::BLOB_NAME",
     "FILE_BLOB_DATA": "data_field, store_file::BLOB_DATA", "PART_SIZE": "buffer_size, store_writer::BUFFER_SIZE", "PARTS_MOST": "1 + slot_count, run_store::PARTS_MOST",
-    "CONFIG_ENTRIES": "entry_most, config_profile::ENTRY_MOST", "ENTRY_FIELDS": "field_count / entry_most, rowOf.length",
-    "CONFIG_FIELDS": "field_count, config_reader::FIELD_COUNT, entry_most * rowOf.length",
+    "CONFIG_ENTRIES": "entry_most, config_profile::ENTRY_MOST", "ENTRY_FIELDS": "field_count / entry_most, row_of.length",
+    "CONFIG_FIELDS": "field_count, config_reader::FIELD_COUNT, entry_most * row_of.length",
     "TRAY_MESSAGES": "tray_most, tray_form::TRAY_MOST", "TRAY_RESPONSES": "tray_most * answer_size", "RECORD_CLOCK_AT": "record.clock",
     "RECORD_CLOCK_WIDTH": "record.clock.width, clock_size, records::CLOCK_SIZE", "RECORD_LENGTH_AT": "record.length",
     "RECORD_MESSAGE_AT": "record.message, prefix_size, records::PREFIX_SIZE",
@@ -101,9 +101,9 @@ OTHERS = {"OEM_NUMBER", "OEM_BYTES", "IPMI_NETFN", "IPMI_COMMAND", "NO_JOB", "VE
 NOT_NEEDED = {"sixteen_bits": "a bound that soundness tests", "word_limit": "a bound that soundness tests", "clean_unit": "read by the library alone",
               "status_unit": "inside KRAMSNEP_JOB_STATUS, which is tried"}
 FIELD_NAMES = {"blob": "name", "start": "data", "len": "commit length"}
-FIELD = re.compile(r"little (?P<width>\d) (?P<number>fieldsAt|\(fieldsAt \+ \d+\)) m|getD m (?P<byte>\(fieldsAt \+ \d+\)) 0|with_name (?P<name>fieldsAt|\(fieldsAt \+ \d+\)) m"
-                   r"|(?<=m\) )(?P<rest>\(fieldsAt \+ \d+\))(?=\))")
-STRINGS = re.compile(r"spanOf \(under (?P<key>\w+) m\)|pairOf (?P<first>\w+) (?P<second>\w+) \(under (?P<object>\w+) (?:m|\(under \w+ m\))\)")
+FIELD = re.compile(r"little (?P<width>\d) (?P<number>fields_at|\(fields_at \+ \d+\)) m|get_or m (?P<byte>\(fields_at \+ \d+\)) 0|with_name (?P<name>fields_at|\(fields_at \+ \d+\)) m"
+                   r"|(?<=m\) )(?P<rest>\(fields_at \+ \d+\))(?=\))")
+STRINGS = re.compile(r"span_of \(under (?P<key>\w+) m\)|pair_of (?P<first>\w+) (?P<second>\w+) \(under (?P<object>\w+) (?:m|\(under \w+ m\))\)")
 
 
 # ---- the definitions
@@ -140,9 +140,9 @@ def spec_values():
 
 def place_values():
     """name -> place: of the subcommand in a message, of a row's words, and, as `word.name`, of the masks in the control block."""
-    found = re.findall(r"(?m)^(subcommand) m = getD m (\d+) 0$", text_of("protocol/specs/Decode.antt"))
-    found += re.findall(r"(?m)^(\w+) r = getD \(r \.words\) (\d+) 0$", text_of("state/specs/Words.antt"))
-    found += [(f"word.{name}", at) for name, at in re.findall(r"(?m)^  (\w+) = getD w (\d+) 0;$", text_of("capi_control/specs/Words.antt"))]
+    found = re.findall(r"(?m)^(subcommand) m = get_or m (\d+) 0$", text_of("protocol/specs/Decode.antt"))
+    found += re.findall(r"(?m)^(\w+) r = get_or r\.words (\d+) 0$", text_of("state/specs/Words.antt"))
+    found += [(f"word.{name}", at) for name, at in re.findall(r"(?m)^  (\w+) = get_or w (\d+) 0;$", text_of("capi_control/specs/Words.antt"))]
     return {name: int(at) for name, at in found}
 
 
@@ -150,9 +150,9 @@ def record_places(known):
     """record.part -> its place in a record, and record.clock.width -> the bytes of its clock. A record ends with its message, behind which the next one starts."""
     text = text_of("records/specs/Records.antt")
     width, clock = re.search(r"(?m)^clock_of b = little (\w+) (\d+) b$", text).groups()
-    length = re.search(r"(?m)^lengthOf b = getD b (\w+) 0$", text).group(1)
-    message = re.search(r"(?m)^message_of b = part (\w+) \(lengthOf b\) b$", text).group(1)
-    if f"\nsizeOf b = {message} + lengthOf b\n" not in text:
+    length = re.search(r"(?m)^length_of b = get_or b (\w+) 0$", text).group(1)
+    message = re.search(r"(?m)^message_of b = part (\w+) \(length_of b\) b$", text).group(1)
+    if f"\nsize_of b = {message} + length_of b\n" not in text:
         sys.exit("Records.antt: a record no longer ends with its message")
     return {name: value(said, known) for name, said in (("record.clock", clock), ("record.clock.width", width), ("record.length", length), ("record.message", message))}
 
@@ -199,7 +199,7 @@ def requests():
     session = re.search(r"(?m)^session_in m = (.+)$", text).group(1)
     lengths = dict(re.findall(r"cond \(eqb sub (\w+)\) \((eqb n \d+|leb \d+ n)\)", text))
     for command, said in re.findall(r"(?m)cond \(eqb sub (\w+)\) (.+)$", text[text.index("\nasked sub m"):]):
-        name = command[0].upper() + command[1:].removesuffix("Command")
+        name = "".join(word.capitalize() for word in command.removesuffix("_command").split("_"))
         fields, places = declared_fields(name), places_in(said.replace("session_in m", session), known)
         if len(fields) != len(places):
             sys.exit(f"{name}: the fields {fields} are declared, and Decode.asked reads {places}")
@@ -211,11 +211,11 @@ def requests():
 
 def responses():
     """subcommand's name -> [(field, width or None, offset)] of its response, by the definitions of the replies (rule 3.5)."""
-    at = spec_values()["fieldsAt"]
-    frame = re.search(r"(?m)^stat_fields state size = bytesOf (\d) state \+\+ \(bytesOf (\d) size \+\+ \(0 ∷ \[\]\)\)$", text_of("protocol/specs/Frame.antt"))
+    at = spec_values()["fields_at"]
+    frame = re.search(r"(?m)^stat_fields state size = bytes_of (\d) state \+\+ \(bytes_of (\d) size \+\+ \(0 ∷ \[\]\)\)$", text_of("protocol/specs/Frame.antt"))
     state, size = (int(width) for width in frame.groups())
-    counted = int(re.search(r"(?m)^counted s = reply \(bytesOf (\d) ", text_of("rules/specs/Listing.antt")).group(1))
-    opened = int(re.search(r"(?m)^opened .* = \(reply \(bytesOf (\d) \(fresh_id s\)\)", text_of("rules/specs/Opening.antt")).group(1))
+    counted = int(re.search(r"(?m)^counted s = reply \(bytes_of (\d) ", text_of("rules/specs/Listing.antt")).group(1))
+    opened = int(re.search(r"(?m)^opened .* = \(reply \(bytes_of (\d) \(fresh_id s\)\)", text_of("rules/specs/Opening.antt")).group(1))
     stat = [("state", state, at), ("size", size, at + state), ("metadata length", 1, at + state + size)]
     return {"Count": [("count", counted, at)], "Enumerate": [("name", None, at)], "Open": [("session", opened, at)], "Read": [("data", None, at)],
             "Stat": stat, "SessionStat": stat}
@@ -223,22 +223,22 @@ def responses():
 
 def profile_words():
     """name -> text of each word of a flash configuration."""
-    return {name: bytes(map(int, said.split(" ∷ "))).decode("ascii") for name, said in re.findall(r"(?m)^(\w+)Word = (\d+(?: ∷ \d+)*) ∷ \[\]$", text_of("config/specs/Words.antt"))}
+    return {name: bytes(map(int, said.split(" ∷ "))).decode("ascii") for name, said in re.findall(r"(?m)^(\w+)_word = (\d+(?: ∷ \d+)*) ∷ \[\]$", text_of("config/specs/Words.antt"))}
 
 
 def entry_strings():
-    """The strings that are shown of an entry, in the order of `rowOf`: the key of each, behind the key of the object that has it unless that is the entry. Then how many numbers show one."""
+    """The strings that are shown of an entry, in the order of `row_of`: the key of each, behind the key of the object that has it unless that is the entry. Then how many numbers show one."""
     text, word = text_of("config/specs/Fields.antt"), profile_words()
-    row = re.search(r"(?m)^rowOf m =\n((?:    .+\n)+)", text).group(1)
-    span = re.search(r"(?m)^spanOf m = (.+) ∷ \[\]$", text).group(1).split(" ∷ ")
-    pair = re.search(r"(?m)^pairOf k l m = (.+)$", text).group(1)
+    row = re.search(r"(?m)^row_of m =\n((?:    .+\n)+)", text).group(1)
+    span = re.search(r"(?m)^span_of m = (.+) ∷ \[\]$", text).group(1).split(" ∷ ")
+    pair = re.search(r"(?m)^pair_of k l m = (.+)$", text).group(1)
     rest = re.sub(r"[\s()]", "", STRINGS.sub("one", row))
-    if span != ["span_start m", "span_length m"] or pair != "spanOf (under k m) ++ spanOf (under l m)" or not re.fullmatch(r"one(\+\+one)*", rest):
-        sys.exit("Fields.antt: rowOf is no longer one string behind another, each by its start and its length")
+    if span != ["span_start m", "span_length m"] or pair != "span_of (under k m) ++ span_of (under l m)" or not re.fullmatch(r"one(\+\+one)*", rest):
+        sys.exit("Fields.antt: row_of is no longer one string behind another, each by its start and its length")
     found = []
     for one in STRINGS.finditer(row):
         keys = [[one["key"]]] if one["key"] else [[one["object"], one["first"]], [one["object"], one["second"]]]
-        found += ["_".join(word[key.removesuffix("Word")] for key in names).upper() for names in keys]
+        found += ["_".join(word[key.removesuffix("_word")] for key in names).upper() for names in keys]
     return found, len(span)
 
 
@@ -251,7 +251,7 @@ def entry_places():
 def definitions():
     known = {**spec_values(), **code_values()}
     strings, width = entry_strings()
-    known["rowOf.length"] = width * len(strings)
+    known["row_of.length"] = width * len(strings)
     for name, (_, _, fields) in requests().items():
         known.update(places_and_widths(name, fields))
     for name, fields in responses().items():
@@ -511,14 +511,14 @@ def comments():
     known = definitions()
     lens, staged, slots = known["committed_lens_at"], known["staged_lens_at"], known["slot_count"]
     wanted = [
-        f"0-{len(known['oem']) - 1}   OEM number 49871: {known['oem'].hex(' ').upper()}", f"{known['subcommand']}     subcommand;", f"{known['headerSize']}-{known['fieldsAt'] - 1}   CRC of the fields", f"{known['fieldsAt']}-    fields",
+        f"0-{len(known['oem']) - 1}   OEM number 49871: {known['oem'].hex(' ').upper()}", f"{known['subcommand']}     subcommand;", f"{known['header_size']}-{known['fields_at'] - 1}   CRC of the fields", f"{known['fields_at']}-    fields",
         f"{known['word.rows']}       mask of session rows in use", f"{known['word.slots']}       mask of store slots in use", f"{known['word.marks']}       mask of slots that are committed",
         f"{lens}-{lens + slots - 1}    committed length of each slot", f"{staged}-{staged + slots - 1}   staged length of each slot",
-        f"{known['phaseAt']}      phase of the flash: {known['phaseNumber.Idle']} Idle, {known['phaseNumber.Uploading']} Uploading, {known['phaseNumber.Verified']} Verified",
-        f"{known['imageLenAt']}, {known['hashLenAt']}  length of the image, of the hash", f"{known['nextAt']}      next session identifier", f"{known['lastSweepAt']}      clock of the last sweep",
-        f"{known['idOf']}  identifier", f"{known['blobOf']}  blob: 0 to {slots - 1} are store slots, {known['imageBlob']} to {known['cleanupBlob']} the flash names below",
-        f"{known['wordOf']}  open flags in bits 0-15, job status in bits {known['statusUnit'].bit_length() - 1}-{known['statusUnit'].bit_length()}, clean (nothing written since the last commit) in bit {known['cleanUnit'].bit_length() - 1}",
-        f"{known['stampOf']}  stamp: the clock of the session's last use",
+        f"{known['phase_at']}      phase of the flash: {known['phase_number.Idle']} Idle, {known['phase_number.Uploading']} Uploading, {known['phase_number.Verified']} Verified",
+        f"{known['image_len_at']}, {known['hash_len_at']}  length of the image, of the hash", f"{known['next_at']}      next session identifier", f"{known['last_sweep_at']}      clock of the last sweep",
+        f"{known['id_of']}  identifier", f"{known['blob_of']}  blob: 0 to {slots - 1} are store slots, {known['image_blob']} to {known['cleanup_blob']} the flash names below",
+        f"{known['word_of']}  open flags in bits 0-15, job status in bits {known['status_unit'].bit_length() - 1}-{known['status_unit'].bit_length()}, clean (nothing written since the last commit) in bit {known['clean_unit'].bit_length() - 1}",
+        f"{known['stamp_of']}  stamp: the clock of the session's last use",
         f"{known['record.clock']}-{known['record.clock'] + known['record.clock.width'] - 1}   clock, as kramsnep_respond takes it", f"{known['record.length']}     length of the message",
         f"{known['record.message']}-    message, so many bytes"]
     lines = [line.removeprefix(" *   ") for line in HEADER.read_text(encoding="ascii").splitlines()]
@@ -542,8 +542,8 @@ def configuration():
     """What the comments say of a flash configuration: how deep it may nest, which level and which entry are one too many, the codes of what is no value, and its words."""
     known, word = definitions(), profile_words()
     wanted = [
-        f"at most {known['levels']} levels of brackets deep", f"a {ORDINALS[known['levels'] + 1]} level of brackets */", f"; a {ORDINALS[known['entryMost'] + 1]} entry",
-        f"{known['numberThere']:X} to {known['tooDeep']:X} are told only where a value may begin",
+        f"at most {known['levels']} levels of brackets deep", f"a {ORDINALS[known['levels'] + 1]} level of brackets */", f"; a {ORDINALS[known['entry_most'] + 1]} entry",
+        f"{known['number_there']:X} to {known['too_deep']:X} are told only where a value may begin",
         f"each an object with {word['blob']} (a string), {word['handler']} (an object with {word['type']}, which is {word['file']}, and {word['path']}, a string) and {word['actions']} "
         f"(an object with {word['preparation']}, {word['verification']} and {word['update']}, each an object with {word['type']} {word['systemd']} and {word['unit']}, a string, "
         f"or with {word['type']} {word['reboot']} alone)"]
@@ -554,13 +554,13 @@ def tray():
     """What the comments say of a tray: how many messages it may have, and which lengths a record can give a message that no request may have."""
     known = definitions()
     length_bytes = known["record.message"] - known["record.length"]
-    wanted = [f"one in a call or up to {known['trayMost']}:", f"a tray goes on behind its {known['trayMost']}th record */", f"One of {known['messageSize'] + 1} to {256 ** length_bytes - 1} bytes is refused"]
+    wanted = [f"one in a call or up to {known['tray_most']}:", f"a tray goes on behind its {known['tray_most']}th record */", f"One of {known['message_size'] + 1} to {256 ** length_bytes - 1} bytes is refused"]
     return [f"no comment says, or more than one: {one}" for one in wanted if flowing().count(one) != 1]
 
 
 def crc():
     """The worked values of Worked.antt, which the comment says too, and random bytes against Python's own CRC."""
-    worked = text_of("crc/specs/Worked.antt")
+    worked = text_of("crc/proofs/Worked.antt")
     digits = bytes(int(byte, 16) for byte in re.findall(r"0x(\w\w)", re.search(r"^nine_digits = (.*)$", worked, re.M)[1]))
     results = dict(re.findall(r" : crc (nine_digits|\[\]) ≡ (0x\w+)", worked))
     wanted = [(digits, int(results["nine_digits"], 16)), (b"", int(results["[]"], 16))]
@@ -601,7 +601,7 @@ def jobs():
     for mask, rows in tried:
         lent = [0] * ((known["row_count"] + 1) * known["row_words"])
         for at, (blob, status) in enumerate(rows):
-            lent[at * known["row_words"] + known["blob_of"]], lent[at * known["row_words"] + known["wordOf"]] = blob, known["write_only"] + status * known["status_unit"]
+            lent[at * known["row_words"] + known["blob_of"]], lent[at * known["row_words"] + known["word_of"]] = blob, known["write_only"] + status * known["status_unit"]
         words.append(f"{{{mask}u, {', '.join(f'{word}u' for word in lent)}}}")
     table = f"static const uint32_t tried[][1 + {len(lent)}] = {{{', '.join(words)}}};"
     body = ["    uint32_t control[KRAMSNEP_CONTROL_WORDS] = {0};", f"    for (int i = 0; i < {len(tried)}; i++) {{", f"        control[{known['word.rows']}] = tried[i][0];",

@@ -1,6 +1,6 @@
 #!/usr/bin/env python3
-"""docs/PROTOCOL.md and the repository agree: every rule that is cited exists, every rule but those of section 21, the theorems, is cited in a comment of a crate's specs, and every
-definition that a rule names exists and cites that rule in its comment, the nearest one above it.
+"""docs/PROTOCOL.md and the repository agree: every rule that is cited exists, every rule but those of section 21, the theorems, is cited in a comment of a crate's specs or theorems, and every
+definition or theorem that a rule names exists, in a crate's specs/ or right in its proofs/, and cites that rule in its comment, the nearest one above it. What the check writes, out/, is left out.
 
 Citations are `rule 9.4`, `rules 9.4 and 9.5`, `rules 9.4, 9.6 and 9.8`, `rules 9.4-9.6`; they may run over a line's end."""
 import pathlib
@@ -43,6 +43,12 @@ def rules_of(text):
     return [(start.group(1), text.count("\n", 0, start.start()) + 1, NAMED.findall(text, start.start(), end)) for start, end in zip(starts, ends)]
 
 
+def written(path):
+    """A file that people wrote: nothing that was built, and nothing that the check left."""
+    parts = path.relative_to(ROOT).parts
+    return parts[0] not in ("target", ".git") and not (parts[0] == "crates" and parts[2:3] == ("out",))
+
+
 def comments(text):
     return "\n".join(line for line in text.split("\n") if line.lstrip().startswith("--"))
 
@@ -61,10 +67,10 @@ def main():
     protocol = PROTOCOL.read_text(encoding="utf-8")
     rules = rules_of(protocol)
     known = [rule for rule, _, _ in rules]
-    specs = {path: path.read_text(encoding="utf-8") for path in sorted(ROOT.glob("crates/*/specs/*.antt"))}
+    specs = {path: path.read_text(encoding="utf-8") for folder in ("specs", "proofs") for path in sorted(ROOT.glob(f"crates/*/{folder}/*.antt"))}
     faults = [f"docs/PROTOCOL.md: rule {rule} stands twice" for rule in sorted(set(known)) if known.count(rule) > 1]
     count = 0
-    for path in sorted(path for path in ROOT.rglob("*") if path.suffix in KINDS and path.relative_to(ROOT).parts[0] != "target" and path.is_file()):
+    for path in sorted(path for path in ROOT.rglob("*") if path.suffix in KINDS and written(path) and path.is_file()):
         for line, cited in citations(path.read_text(encoding="utf-8")):
             count += 1
             faults += [f"{path.relative_to(ROOT)}:{line}: there is no rule {rule}" for rule in sorted(cited - set(known))]
@@ -72,7 +78,7 @@ def main():
     for rule, line, named in rules:
         place = f"docs/PROTOCOL.md:{line}: rule {rule}"
         if int(rule.split(".")[0]) != THEOREMS and rule not in carried:
-            faults.append(f"{place}: no comment of a crate's specs cites it")
+            faults.append(f"{place}: no comment of a crate's specs or theorems cites it")
         if not named:
             faults.append(f"{place}: names no definition")
         for file, name in named:

@@ -1,11 +1,11 @@
 #!/usr/bin/env python3
 """Every public function has a statement that is an equation, and docs/STATEMENTS.md names what is there.
 
-- A public function has an `ensures`, but in a crate that only talks to the system, and stands on the page. Its claims are equations `x ≡ y`, under any quantifiers, or several joined by ×; a function that claims anything else
+- A public function has an `ensures`, but in a crate that only talks to the system, and stands on the page. Its claims, one in each clause, are equations `x ≡ y`, under any quantifiers, or several joined by ×; a function that claims anything else
   is a row of the page's section "Contracts that are not plain equations", with the reason, and no other function is.
 - A public entry has no `requires`. A function that is `pub` only for the repository's other crates may require what soundness and decoding give.
 - In a table of the page with a column `edits`, each monospace name there (`label` or `crate/label`) is a must-fail edit that exists. Each public entry, and each theorem of
-  the theorem crates that the page names, has such a row: its first cell names it, and at least two of the edits in it are of its own crate. For a C function one of the two may be of the crate that defines what it leaves."""
+  the theorem crates that the page names (they stand in specs/ and in proofs/), has such a row: its first cell names it, and at least two of the edits in it are of its own crate. For a C function one of the two may be of the crate that defines what it leaves."""
 import pathlib
 import re
 import sys
@@ -15,7 +15,7 @@ PAGE = ROOT / "docs" / "STATEMENTS.md"
 ENTRY_CRATES = ("blobs", "capi")
 ENTRIES = ("blobs::respond", "blobs::job_outcome", "capi::kramsnep_respond", "capi::kramsnep_job_outcome", "capi::kramsnep_save_part", "capi::kramsnep_load",
            "capi::kramsnep_find_session", "capi::kramsnep_read_config", "capi::kramsnep_tray", "tray_answer::answer_tray", "lookup::find_session", "config_reader::read_config", "store_writer::save_part", "store_loader::load", "run_buffer::run")
-THEOREM_CRATES = ("rules", "guarantees", "answers", "effects", "scans", "retries", "store_guarantees", "visits", "json", "json_walk", "config_answers", "tray", "capi_calls")
+THEOREM_CRATES = ("rules", "guarantees", "answers", "effects", "scans", "retries", "store_guarantees", "visits", "json_grammar", "json_walk", "config_answers", "tray", "capi_calls")
 DEFINED_IN = {"capi": "capi_calls"}  # where what a crate's functions leave is defined, if edits of that count for them
 SYSTEM_CRATES = ("run_store", "system")
 EDITS_EACH = 2
@@ -31,8 +31,14 @@ def functions(text):
         yield found.group(1), rest[:re.search(r"\n *\{\n| \{\n", rest).start()]
 
 
+def clauses(kind, contract):
+    """How many clauses of this kind a contract has, whatever their form."""
+    return len(re.findall(rf"\b{kind}\b", contract))
+
+
 def claims(contract):
-    return re.findall(r"ensures \{ λ \w+\. ⌜ (.*) ⌝ \}", contract)
+    """What each `ensures` says: a clause is one line, `ensures { .. }` or, where there are two, `ensures name { .. }`."""
+    return re.findall(r"(?m)^ *ensures (?:\w+ )?\{ (.*) \},?$", contract)
 
 
 def split(text, mark):
@@ -68,7 +74,7 @@ def theorems():
     """name -> crate, of each theorem of the theorem crates; a record's fields are none."""
     found = {}
     for crate in THEOREM_CRATES:
-        for path in sorted((ROOT / "crates" / crate / "specs").glob("*.antt")):
+        for path in sorted(path for folder in ("specs", "proofs") for path in (ROOT / "crates" / crate / folder).glob("*.antt")):
             text = RECORD.sub("", path.read_text(encoding="utf-8"))
             found.update({name: crate for name in re.findall(r"(?m)^ *pub ([^\s:()]+) :", text)})
     return found
@@ -126,13 +132,13 @@ def contract_faults(page):
             seen.append(full)
             said = claims(contract)
             plain = all(is_equation(claim) for claim in said)
-            if (not said and crate not in SYSTEM_CRATES) or len(said) != contract.count("ensures {"):
+            if (not said and crate not in SYSTEM_CRATES) or len(said) != clauses("ensures", contract):
                 faults.append(f"{full} has no ensures, or one in another form")
             if not plain and not reasons.get(full):
                 faults.append(f"{full} claims more than equations, and '{OTHER_CLAIMS}' does not say why")
             if plain and full in reasons:
                 faults.append(f"{full} claims equations only, and stands in '{OTHER_CLAIMS}'")
-            if (crate in ENTRY_CRATES or full in ENTRIES) and "requires {" in contract:
+            if (crate in ENTRY_CRATES or full in ENTRIES) and clauses("requires", contract):
                 faults.append(f"{full} is a public entry and has a requires")
             if not re.search(rf"(?<!\w){name}(?!\w)", page):
                 faults.append(f"{full} is not in docs/STATEMENTS.md")

@@ -20,20 +20,19 @@ def uses():
     """crate -> what crates.txt lists for it"""
     lines = (ROOT / "crates.txt").read_text().splitlines()
     pairs = [line.split("#")[0].split(":") for line in lines if ":" in line.split("#")[0]]
-    return {name.strip(): listed.split() for name, listed in pairs}
+    return {name.split()[0]: listed.split() for name, listed in pairs}  # behind the name its kind may stand, as staticlib
 
 
 def named_in(crate):
-    """the crates that the files of a crate name"""
-    names = set()
-    for path in (ROOT / "crates" / crate).rglob("*"):
-        if path.suffix == ".antt":
-            names.update(re.findall(r"Rattle·(\w+)[.·]", path.read_text()))
-        elif path.suffix == ".rt":
-            text = path.read_text()
-            names.update(re.findall(r"Rattle·(\w+)[.·]", text))
-            code = "\n".join(line.split("//")[0] for line in text.splitlines())
-            names.update(re.findall(r"(?<![\w:·.])(\w+)::", code))
+    """the crates that the files of a crate name: `Rattle.NAME.specs` and `Rattle.NAME.proofs` in definitions, proofs and contracts, `NAME::` in code; not in comments, nor in what the check left in out/"""
+    names, top = set(), ROOT / "crates" / crate
+    for path in sorted(top.rglob("*")):
+        if path.suffix not in (".antt", ".rt") or path.relative_to(top).parts[0] == "out":
+            continue
+        text = re.sub(r"(?m)--.*$" if path.suffix == ".antt" else r"(?m)//.*$", "", path.read_text(encoding="utf-8"))
+        names.update(re.findall(r"\bRattle\.(\w+)\.(?:specs|proofs)\b", text))
+        if path.suffix == ".rt":
+            names.update(re.findall(r"(?<![\w:.])(\w+)::", text))
     return names
 
 
