@@ -145,7 +145,7 @@ module _ (flags t : ℕ) (s : State) where
       → code (whether o
       (λ (k : ℕ). none_or (row_found (OnBlob k) s) (refused busy, s) (some_or (free_row_in s) (refused no_room, s) (λ (r : ℕ). opened (AtSlot k) r k flags 1 t (held_slot flags (slot_at k s)) s)))
       (cond (writes_with flags) (some_or (free_row_in s) (refused no_room, s) (λ (r : ℕ). some_or (free_slot_in s) (refused no_room, s)
-          (λ (k : ℕ). opened (AtSlot k) r k flags 0 t (new_slot n) s))) (refused not_found, s)))
+      (λ (k : ℕ). opened (AtSlot k) r k flags 0 t (new_slot n) s))) (refused not_found, s)))
       ≡ open_held o flags s
   held-code n none h =
       holds-code code (writes_with flags) _ (refused not_found, s) (cond (row_free s) (cond (slot_free s) success no_room) no_room) not_found

@@ -76,7 +76,7 @@ module _ (sub : ℕ) where
 
     write-flash-code : (v w x y z : Bool) (ws : List ℕ) (offset : ℕ)
         → code_of (write_flash (kind_if v w x y z) t offset ws r b).0 ≡ cond v (place_code image_size b.image_len offset (length ws))
-            (cond w (place_code hash_size b.hash_len offset (length ws)) not_supported)
+        (cond w (place_code hash_size b.hash_len offset (length ws)) not_supported)
     unfolding write_flash framed
     write-flash-code true w x y z ws offset = placed-code image_size b.image_len offset (length ws) r b _ refl
     write-flash-code false true x y z ws offset = placed-code hash_size b.hash_len offset (length ws) r b _ refl
@@ -175,7 +175,7 @@ module _ (t i : ℕ) (m : List ℕ) (s : State) (h : is_sound s ≡ true) (l : L
   commit-code len rest =
       row-code commit_command i t (commit len rest) s _ _ (commit-store-code commit_command t r b (commit_fits len rest) (writes r) refl)
       (commit-flash-code commit_command t r f (commit_fits len rest) (eqb (blob i s) image_blob) (eqb (blob i s) hash_blob) (eqb (blob i s)
-          verify_blob) (eqb (blob i s) update_blob) (eqb (blob i s) cleanup_blob))
+      verify_blob) (eqb (blob i s) update_blob) (eqb (blob i s) cleanup_blob))
       ∙ inside (on_slot i s) (commit_fits len rest) _ _
       ∙ ap (λ (y : Bool). cond y (cond (on_slot i s) (cond (writes r) success not_supported) (cond (on_upload i s) not_supported success)) invalid) (fits-is len rest)
     where

@@ -42,9 +42,9 @@ unfolding decoded crc_fits
 decoded-by-frame m =
     ap (λ (q : Request). cond sized (cond branded q (refused_with invalid)) (refused_with wrong_length))
     (behind known (body_fits (subcommand m) (body_length m)) (body_right (subcommand m) (body_length m)) (cond (crc_fits m) (asked (subcommand m) m)
-        (refused_with invalid)) (refused_with wrong_length) (refused_with unknown_command)
+    (refused_with invalid)) (refused_with wrong_length) (refused_with unknown_command)
     (λ (c : known ≡ true). each-command (λ (sub : ℕ). body_fits sub (body_length m) ≡ body_right sub (body_length m)) (subcommand m)
-        (bodies (body_length m)) (leb-true (subcommand m) write_meta_command c)))
+    (bodies (body_length m)) (leb-true (subcommand m) write_meta_command c)))
     ∙ checks sized branded known (body_right (subcommand m) (body_length m)) (crc_fits m) (asked (subcommand m) m)
   where
     sized : Bool

@@ -137,7 +137,7 @@ running-flash i s g l e = go (dec_lt (blob i s) slot_count)
     go : Dec (blob i s < slot_count) → slot_count ≤ blob i s
     go (yes low) = absurd (
         let f : StoreFacts (blob i s) (ident i s) (blob i s) (word_of ((in_row i).get s)) (slot_at (blob i s) s) = subst (λ (p : Place). Session p
-            ((in_row i).get s) ((in_body p).get s)) (place-slot (blob i s) low) (g.session i l) in
+        ((in_row i).get s) ((in_body p).get s)) (place-slot (blob i s) low) (g.session i l) in
         let z = f.no-status in omega arith)
     go (no n) = omega arith
 

@@ -164,8 +164,14 @@ unfoldable pub scanned : State
 scanned = (in_body (AtSlot 0)).put scan_slot fresh
 
 scan-fits : FitsSlot scan_slot
-scan-fits = record { name-long = padded-length name_size moreau; committed-long = length-replicate slot_size 0; staged-long = length-replicate
-    slot_size 0; held-flag = omega arith; mark-flag = omega arith }
+scan-fits = record {
+  name-long = padded-length name_size moreau;
+  committed-long = length-replicate slot_size 0;
+  staged-long = length-replicate
+      slot_size 0;
+  held-flag = omega arith;
+  mark-flag = omega arith;
+}
 
 scan-idle : StoreIdle scan_slot
 scan-idle = record { held-marked = refl; idle-committed = fits-100; idle-staged = refl; held-name = λ _. moreau-name; free-zero = λ (h : ◌≡◌ {A = ℕ} 1 0). absurd (omega arith) }

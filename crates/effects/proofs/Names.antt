@@ -38,7 +38,7 @@ enumerate-sends t i m s h d l =
     ap (λ (o : Effect). o.response) (respond-is t m s h)
     ∙ ap (λ (q : Request). (framed (number_of q) (answered q t m s).0).1) d
     ∙ ap (λ (y : Bool). (framed enumerate_command (cond y (reply (get_or (listed s) i [] ++ (0 ∷ []))) (refused out_of_range))).1)
-        (lt-ltb i (count s) (subst (λ (n : List (List ℕ)). i < length n) (sym (names-are s)) l))
+    (lt-ltb i (count s) (subst (λ (n : List (List ℕ)). i < length n) (sym (names-are s)) l))
     ∙ ap (λ (n : List (List ℕ)). sent enumerate_command (get_or n i [] ++ (0 ∷ []))) (names-are s)
 
 -- ---- lengths

@@ -63,7 +63,7 @@ module _ (r : Row) (b : Slot) where
   unfolding write_store
   short_write true ws t i =
       placed-has slot_size b.staged_len i (length ws) r b (stored t i ws r b) (λ (o : Out Slot). Short o.0) (λ (h : i ≤ b.staged_len)
-          (l : i + length ws ≤ slot_size). short-stored ws t i) (λ (code : ℕ). tt)
+      (l : i + length ws ≤ slot_size). short-stored ws t i) (λ (code : ℕ). tt)
   short_write false ws t i = tt
 
   short-writing : (y : Bool) (t : ℕ) → Short (commit_writing y t r b).0

@@ -158,15 +158,15 @@ open-decoded Cleanup = refl
 runs : Goes fresh history (success ∷ success ∷ success ∷ success ∷ success ∷ success ∷ success ∷ []) update_open
 runs =
     on (by-message 1 (ask_open write_only (flash_name Image)) (Open write_only (Flash Image)) fresh (reply (bytes_of 2 0)) image_open
-        (open-decoded Image) (opens-image (ask_open write_only (flash_name Image))))
+    (open-decoded Image) (opens-image (ask_open write_only (flash_name Image))))
     (on (by-message 2 (ask_close 0) (Close 0) image_open done image_closed (close-decoded 0 (omega arith)) (closes-image (ask_close 0)))
     (on (by-message 3 (ask_open write_only (flash_name Verify)) (Open write_only (Flash Verify)) image_closed (reply (bytes_of 2 1)) verify_open
-        (open-decoded Verify) (opens-verify (ask_open write_only (flash_name Verify))))
+    (open-decoded Verify) (opens-verify (ask_open write_only (flash_name Verify))))
     (on (by-message 4 (ask_commit 1) (Commit 1 0 0) verify_open done verify_runs (commit-decoded 1 (omega arith)) (commits-verify (ask_commit 1)))
     (on (by-outcome true verify_runs done verify_good good-verify)
     (on (by-message 5 (ask_close 1) (Close 1) verify_good done verify_closed (close-decoded 1 (omega arith)) (closes-verify (ask_close 1)))
     (on (by-message 6 (ask_open write_only (flash_name Update)) (Open write_only (Flash Update)) verify_closed (reply (bytes_of 2 2)) update_open
-        (open-decoded Update) (opens-update (ask_open write_only (flash_name Update))))
+    (open-decoded Update) (opens-update (ask_open write_only (flash_name Update))))
     (ends update_open))))))) fresh-sound
 
 open-sound : is_sound update_open ≡ true

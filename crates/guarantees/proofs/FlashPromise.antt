@@ -663,7 +663,7 @@ never-together es =
     let s = run fresh es in
     let h : is_sound s ≡ true = run_sound es fresh fresh-sound in
     both-not (is_open Image s) (is_open Hash s) (is_open Verify s) (not-together Image Verify s h (omega arith) (omega arith) (omega arith))
-        (not-together Hash Verify s h (omega arith) (omega arith) (omega arith))
+    (not-together Hash Verify s h (omega arith) (omega arith) (omega arith))
 
 watched : (es : List Event) (v : Bool) (s : State) → verified_since v s es ≡ true → Or ((v ≡ true) × NeverOpens s es) (VerifiedIn s es)
 watched [] v s h = this (h, tt)

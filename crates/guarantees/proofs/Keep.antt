@@ -149,7 +149,7 @@ held-sound flags t r k s g fl fr fs quiet = go fl
     writer = opened-sound s g r fr.0 fr.1 (AtSlot k) k read_write 1 t copy (place-slot k fs.0) lone
         (fs.0, record { name-long = fit.name-long; committed-long = fit.committed-long; staged-long = fit.committed-long; held-flag = fit.held-flag; mark-flag = fit.mark-flag })
         (λ (sm : fresh_id s < sixteen_bits). facts read_write sm copy store_writes refl (omega arith) refl fs.1 marked idle.idle-committed
-            idle.idle-committed (λ (z : ◌≡◌ {A = ℕ} 1 0). absurd (omega arith)) refl)
+        idle.idle-committed (λ (z : ◌≡◌ {A = ℕ} 1 0). absurd (omega arith)) refl)
         others
 
     go : Or (flags ≡ read_only) (flags ≡ read_write) → Sound (opened (AtSlot k) r k flags 1 t (held_slot flags (slot_at k s)) s).1

@@ -47,9 +47,16 @@ pub new-sound : (n : List ℕ) (t r k : ℕ) (s : State) → Sound s → store_n
     (((in_row r).get s).used ≡ 0) → (k < slot_count) × ((slot_at k s).held ≡ 0)
     → Sound (opened (AtSlot k) r k read_write 0 t (new_slot n) s).1
 new-sound n t r k s g nm none-held fr fs =
-    opened-sound s g r fr.0 fr.1 (AtSlot k) k read_write 0 t (new_slot n) (place-slot k fs.0) (unused-alone k s g fs.0 fs.1)
-    (fs.0, record { name-long = padded-length name_size n; committed-long = length-replicate slot_size 0; staged-long = length-replicate slot_size 0;
-        held-flag = omega arith; mark-flag = omega arith })
+    opened-sound s g r fr.0 fr.1 (AtSlot k) k read_write 0 t (new_slot n) (place-slot k fs.0) (unused-alone k s g fs.0 fs.1) (
+      fs.0,
+      record {
+        name-long = padded-length name_size n;
+        committed-long = length-replicate slot_size 0;
+        staged-long = length-replicate slot_size 0;
+        held-flag = omega arith;
+        mark-flag = omega arith;
+      },
+    )
     (λ (sm : fresh_id s < sixteen_bits). record {
       id-small = sm;
       on-slot = refl;

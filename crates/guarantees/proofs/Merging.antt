@@ -147,7 +147,7 @@ pub proper-row : (s : State) → Sound s → (i : ℕ) → Live i s → (t : ℕ
     (on_part (place_of (blob i s)) t c ((in_row i).get s) ((in_body (place_of (blob i s))).get s)).1.1
 proper-row s g i l t c =
     proper (place_of (blob i s)) t c ((in_row i).get s) ((in_body (place_of (blob i s))).get s) (row-view-fits i s l.0 g.shape) (body-view-fits
-        (place_of (blob i s)) s (in-range (blob i s)) g.shape) l.1 (g.session i l)
+    (place_of (blob i s)) s (in-range (blob i s)) g.shape) l.1 (g.session i l)
 
 -- a command on a live row keeps the state sound
 pub on-row-sound : (s : State) → Sound s → (i : ℕ) → Live i s → (t : ℕ) (c : Command) → Sound (on_row i t c s).1

@@ -102,8 +102,10 @@ module _ (s : State) (g : Sound s) (row : (in_row 1).get s ≡ writing_row 1) wh
   quiet n = let y : status_of ((in_row 1).get s) ≡ 0 = ap status_of row in omega arith
 
   stat-owned : All (Mine s 1) stat_and_close
-  stat-owned = ((second_live, owns (ask_session_stat 1) _ _ (stat-decoded 1 (omega arith)) (that (refl, sym second-id))),
-      ((second_live, owns (ask_close 1) _ _ (close-decoded 1 (omega arith)) (that (refl, sym second-id))), tt))
+  stat-owned = (
+    (second_live, owns (ask_session_stat 1) _ _ (stat-decoded 1 (omega arith)) (that (refl, sym second-id))),
+    ((second_live, owns (ask_close 1) _ _ (close-decoded 1 (omega arith)) (that (refl, sym second-id))), tt),
+  )
 
   stat-codes : codes (alone step s stat_and_close) ≡ success ∷ success ∷ []
   stat-codes =
@@ -182,4 +184,4 @@ verify-owned =
 pub store-and-flash : Met (writer_and_verify 100) whole_verify (success ∷ busy ∷ success ∷ not_supported ∷ success ∷ not_found ∷ [])
 store-and-flash =
     met (writer_and_verify 100) (verify-good 100 fits-100) (verify-first 100) (verify-slot 100) whole_verify (success ∷ busy ∷ success ∷ not_supported
-        ∷ success ∷ not_found ∷ []) verify-owned verify-goes.coded
+    ∷ success ∷ not_found ∷ []) verify-owned verify-goes.coded

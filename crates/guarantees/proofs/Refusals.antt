@@ -246,6 +246,9 @@ refused-job good s = go (is_sound s)
     full = effect_of (silent (on_session OnFlash 0 (end_job good) s).0) (on_session OnFlash 0 (end_job good) s).1
 
     go : (y : Bool) → (cond y full (unsound s)).code ≢ success → Nothing (cond y full (unsound s)) s
-    go true h = record { no-response = silent-nothing (on_session OnFlash 0 (end_job good) s).0; as-found = keep-session OnFlash 0 (end_job good) s
-        (refused-silent (on_session OnFlash 0 (end_job good) s).0 h) }
+    go true h = record {
+      no-response = silent-nothing (on_session OnFlash 0 (end_job good) s).0;
+      as-found = keep-session OnFlash 0 (end_job good) s
+          (refused-silent (on_session OnFlash 0 (end_job good) s).0 h);
+    }
     go false h = record { no-response = refl; as-found = refl }

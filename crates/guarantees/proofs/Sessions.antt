@@ -221,7 +221,7 @@ stat-then-close t u i s h l n = (
     row_now =
         row_new s g i l (on_part (place_of (blob i s)) t stat ((in_row i).get s) ((in_body (place_of (blob i s))).get s)).1.0
         (on_part (place_of (blob i s)) t stat ((in_row i).get s) ((in_body (place_of (blob i s))).get s)).1.1 fine ∙ (stat-on (place_of (blob i s)) t
-            ((in_row i).get s) ((in_body (place_of (blob i s))).get s)).1
+        ((in_row i).get s) ((in_body (place_of (blob i s))).get s)).1
 
     live_now : Live i s₁
     live_now = (l.0, ap (λ (x : Row). x.used) row_now ∙ l.1)

@@ -128,8 +128,13 @@ module _ (k : ℕ) (low : k < slot_count) (r : Row) (b : Slot) (fr : FitsRow r) 
   unfolding stored
   on_store_lem [] t i wr h = touched t
   on_store_lem (x ∷ ws) t i wr h = cleaned t 0 d
-      (record { name-long = fb.name-long; committed-long = fb.committed-long; staged-long = length-sets b.staged_bytes i (x ∷ ws) ∙ fb.staged-long;
-          held-flag = fb.held-flag; mark-flag = fb.mark-flag })
+      (record {
+        name-long = fb.name-long;
+        committed-long = fb.committed-long;
+        staged-long = length-sets b.staged_bytes i (x ∷ ws) ∙ fb.staged-long;
+        held-flag = fb.held-flag;
+        mark-flag = fb.mark-flag;
+      })
       refl
       (facts 0 d (omega arith) wr ses.is_held ses.mark-bit ses.committed-fits (let g = ses.staged-fits in omega arith) (omega arith) ses.unmarked refl)
     where
@@ -166,8 +171,13 @@ module _ (k : ℕ) (low : k < slot_count) (r : Row) (b : Slot) (fr : FitsRow r) 
       ended (with_staged (replicate slot_size 0) 0 b)
       (record { name-long = fb.name-long; committed-long = fb.committed-long; staged-long = length-replicate slot_size 0; held-flag = fb.held-flag; mark-flag = fb.mark-flag })
       (λ (h : b.held ≡ 1). refl)
-      (record { held-marked = omega arith; idle-committed = ses.committed-fits; idle-staged = refl; held-name = λ (h : b.held ≡ 1). ses.name-good;
-          free-zero = λ (h : b.held ≡ 0). absurd (omega arith) })
+      (record {
+        held-marked = omega arith;
+        idle-committed = ses.committed-fits;
+        idle-staged = refl;
+        held-name = λ (h : b.held ≡ 1). ses.name-good;
+        free-zero = λ (h : b.held ≡ 0). absurd (omega arith);
+      })
   on-close-writing false q = ended free_slot freed-fits (λ (h : ◌≡◌ {A = ℕ} 0 1). absurd (omega arith)) free-idle
 
   on-close : (y : Bool) → writes r ≡ y → Fine (free_row, closed_slot y b)
@@ -177,8 +187,14 @@ module _ (k : ℕ) (low : k < slot_count) (r : Row) (b : Slot) (fr : FitsRow r) 
       let nw : writing_in (word_of r) ≡ 0 = let n = eqb-false (writing_in (word_of r)) 1 q in omega arith in
       let c = ses.clean-marked in let d = ses.reader-clean in let m = ses.mark-bit in let h = ses.is_held in
       ended b fb (λ (h : b.held ≡ 1). refl)
-      (record { held-marked = omega arith; idle-committed = ses.committed-fits; idle-staged = ses.unstaged nw; held-name = λ (h : b.held ≡ 1).
-          ses.name-good; free-zero = λ (h : b.held ≡ 0). absurd (omega arith) })
+      (record {
+        held-marked = omega arith;
+        idle-committed = ses.committed-fits;
+        idle-staged = ses.unstaged nw;
+        held-name = λ (h : b.held ≡ 1).
+            ses.name-good;
+        free-zero = λ (h : b.held ≡ 0). absurd (omega arith);
+      })
 
   -- every command
   pub proper-store : (t : ℕ) (c : Command) → Fine (on_store t c r b).1

@@ -1,6 +1,7 @@
 -- Parts of a flat list: a range, a block of equal blocks, an element. As lenses none of them asks anything of the list's length. Assumes nothing.
 use Rattle.std.specs.Prelude.{◌≡◌, refl, ◌≢◌, List, [], ◌∷◌, ◌++◌, ℕ, zero, suc, ◌+◌, ◌*◌, ◌-◌, ◌≤◌, ◌<◌, replicate, length, get_or, set, take, drop}
-use Rattle.std.proofs.Common.{sym, ◌∙◌, ap, ap₂, append_assoc, suc-mul, zero-add, suc-add, mul-le-mul_right, add-zero, add-suc, arith, length-take, length-drop, length-set, drop_of_length-le, ext_get_or, get_or-set_other, drop-set-lt, drop-cons, take_at, drop_at, length-take-le, take_all, get_or-take, get_or-drop, set-set, take-take, drop-drop}
+use Rattle.std.proofs.Common.{sym, ◌∙◌, ap, ap₂, append_assoc, suc-mul, zero-add, suc-add, mul-le-mul_right, add-zero, add-suc, arith, length-take, length-drop}
+use Rattle.std.proofs.Common.{length-set, drop_of_length-le, ext_get_or, get_or-set_other, drop-set-lt, drop-cons, take_at, drop_at, length-take-le, take_all, get_or-take, get_or-drop, set-set, take-take, drop-drop}
 use Rattle.std.proofs.Math.Logic.{Ne-symm}
 use Rattle.std.proofs.Math.Nat.{min-le_left, add-sub_cancel_left}
 use Rattle.std.proofs.Math.Decide.{dec_lt}

@@ -68,7 +68,7 @@ module _ (id t : ℕ) (c : Command) (s : State) (g : Sound s) (h : Lasting c) wh
       ∙ ap (λ (b : ℕ). on_place (place_of b) r t c y) blob-now
       ∙ ap (λ (x : Row × Body p). ((on_part p t c x.0 x.1).0, (cell r p).put (on_part p t c x.0 x.1).1 y)) view-now
       ∙ ap (λ (o : Reply × (Row × Body p)). (o.0, (cell r p).put o.1 y)) (part-again p t c ((in_row r).get s) ((in_body p).get s) h
-          (row-view-fits r s l.0 g.shape) (body-view-fits p s (in-range (blob r s)) g.shape) kept.1)
+      (row-view-fits r s l.0 g.shape) (body-view-fits p s (in-range (blob r s)) g.shape) kept.1)
       ∙ ap (λ (x : Row × Body p). (out.0, (cell r p).put x y)) (sym view-now)
       ∙ ap (λ (x : State). (out.0, x)) (cell-steady r p y)
     where
@@ -265,8 +265,13 @@ new-busy : (n : List ℕ) (r k flags t : ℕ) (s : State) → Sound s → due t 
     → open_store n flags t (swept t (opened (AtSlot k) r k flags 0 t (new_slot n) s).1) ≡ (refused busy, (opened (AtSlot k) r k flags 0 t (new_slot n) s).1)
 new-busy n r k flags t s g over allowed free e =
     slot-busy n r k flags 0 t (new_slot n) s g over free (free-slot s k e).0
-    (record { name-long = padded-length name_size n; committed-long = length-replicate slot_size 0; staged-long = length-replicate slot_size 0;
-        held-flag = omega arith; mark-flag = omega arith }) refl refl allowed
+    (record {
+      name-long = padded-length name_size n;
+      committed-long = length-replicate slot_size 0;
+      staged-long = length-replicate slot_size 0;
+      held-flag = omega arith;
+      mark-flag = omega arith;
+    }) refl refl allowed
 
 -- a flash name: it is listed still, and there is a flash session now
 still-listed : (k : FlashKind) (b : FlashBody) → flash_listed k b.phase ≡ true → flash_listed k (opened_flash k b).phase ≡ true
@@ -343,7 +348,7 @@ unfolding on_flash close_flash framed
 close-quiet (AtSlot k) t r b ses ok e = let z = ses.no-status in omega arith
 close-quiet AtFlash t r b ses ok e =
     let z : (framed close_command (close_flash true (kind_of (blob_of r)) r b).0).0 ≡ success = sym (ap (λ (y : Bool). (framed close_command
-        (close_flash y (kind_of (blob_of r)) r b).0).0) (eq-eqb (status_of r) running e)) ∙ ok in
+    (close_flash y (kind_of (blob_of r)) r b).0).0) (eq-eqb (status_of r) running e)) ∙ ok in
     omega arith
 
 close-gone : (id t : ℕ) (s : State) → Sound s → (framed close_command (on_session (Id id) t close s).0).0 ≡ success → on_session (Id id) t close
@@ -372,7 +377,7 @@ unfolding delete_blob delete_store framed
 delete-gone (Store at len) m s g =
     some-has (Vanished (Store at len) m) (slot_named n s) (refused not_found, s) _ (λ (e : not_found ≡ success). absurd (omega arith))
     (λ (k : ℕ) (e : slot_named n s ≡ some k). none_has (Vanished (Store at len) m) (row_found (OnBlob k) s) (refused busy, s)
-        (done, (in_body (AtSlot k)).put free_slot s) (λ (f : busy ≡ success). absurd (omega arith))
+    (done, (in_body (AtSlot k)).put free_slot s) (λ (f : busy ≡ success). absurd (omega arith))
     (λ _ _. delete-none n ((in_body (AtSlot k)).put free_slot s) (absent_none n ((in_body (AtSlot k)).put free_slot s) (gone-absent n s g k e))))
   where
     n : List ℕ

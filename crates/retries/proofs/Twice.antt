@@ -128,7 +128,7 @@ module _ (t id bl w st used : ℕ) where
     writing-again false e = ap (λ (y : Bool). commit_writing y t r b) e
     writing-again true e =
         ap (λ (y : Bool). commit_writing y t (later (word_with f j 1)) (committed_slot b)) (clean-writes 1 (omega arith) ∙ e) ∙ ap
-            (λ (x : Row). (done, (x, committed_slot b))) (clean-again 1 (omega arith))
+        (λ (x : Row). (done, (x, committed_slot b))) (clean-again 1 (omega arith))
 
     commit-again : (y : Bool) → commit_store y t (commit_store y t r b).1.0 (commit_store y t r b).1.1 ≡ commit_store y t r b
     unfolding commit_store

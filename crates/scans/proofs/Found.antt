@@ -66,7 +66,7 @@ module _ (s : State) (g : Sound s) where
     unfolding scan_of
     scan-at m = ap (λ (o : Option ℕ). whether o (λ (j : ℕ). some (scan_in (slot_at j s))) none)
         (first_some (λ (j : ℕ). committed_as n (slot_at j s)) slot_count k low (committed-is n (slot_at k s) m name)
-            (λ (j : ℕ) (l : j < slot_count) (d : j ≢ k). go j l d (committed_as n (slot_at j s)) refl))
+        (λ (j : ℕ) (l : j < slot_count) (d : j ≢ k). go j l d (committed_as n (slot_at j s)) refl))
       where
         go : (j : ℕ) → j < slot_count → j ≢ k → (y : Bool) → committed_as n (slot_at j s) ≡ y → committed_as n (slot_at j s) ≡ false
         go j l d true e = let c = committed-says n (slot_at j s) e in absurd (other_name j l d (marked-held j l c.0) c.1)

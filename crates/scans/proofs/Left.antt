@@ -150,7 +150,7 @@ module _ (n : List ℕ) (s : State) (g : Sound s) (k : ℕ) (e : slot_named n s 
       let name : padded name_size (part at' len m) ≡ padded name_size n = same_true _ _ asked in
       let none-there : slot_named (part at' len m) (swept t freed) ≡ none
       = absent_none (part at' len m) (swept t freed) (λ (j : ℕ) (l : j < slot_count) (u : (slot_at j (swept t freed)).held ≡ 1)
-          (z : (slot_at j (swept t freed)).name ≡ padded name_size (part at' len m)). absent j l u (z ∙ name)) in
+      (z : (slot_at j (swept t freed)).name ≡ padded name_size (part at' len m)). absent j l u (z ∙ name)) in
       ap (λ (o : Effect). o.code) (open_is t read_only (Store at' len) m freed h d)
       ∙ ap (λ (o : Reply × State). (framed open_command o.0).0) (reads_none (part at' len m) t (swept t freed) none-there)
 

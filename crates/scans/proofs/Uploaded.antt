@@ -166,7 +166,7 @@ open-shows n x t at len m s h has d asked ok =
     let g₁ = sound-of-test s h in
     subst (Opens x) (sym e)
     (name-given n (part at len m) x t (swept t s) (swept-sound t s g₁) (sweep-same n t s g₁ ∙ has) asked (ap (λ (o : Effect). is_sound o.state)
-        (sym e) ∙ respond-sound t m s h) (sym (ap (λ (o : Effect). o.code) e) ∙ ok))
+    (sym e) ∙ respond-sound t m s h) (sym (ap (λ (o : Effect). o.code) e) ∙ ok))
 
 -- WHAT A SESSION THAT WRITES READS WHEN IT COMMITS IS WHAT ANY LATER OPEN FOR READING OF ITS NAME SHOWS, unless an event between the two replaced it (rule 21.11)
 pub upload-shown : (n : List ℕ) (t i : ℕ) (m : List ℕ) (s : State) (es : List Event) (u at len : ℕ) (m' : List ℕ)

@@ -123,8 +123,14 @@ module _ (k : FlashKind) (t : ℕ) (x : Row) (b : FlashBody) where
   unfolding on_flash close_flash
   close-busy p = rw (eq-eqb (status_of x) running p)
 
-  close-free : (y : Bool) → (status_of x ≡ running → ⊥) → updated_by k (status_of x) ≡ y → on_flash k t close x b ≡ (done, (free_row, cond y
-      empty_flash (with_phase (closed_phase k (status_of x) b.phase) b)))
+  close-free : (y : Bool) → (status_of x ≡ running → ⊥) → updated_by k (status_of x) ≡ y → on_flash k t close x b ≡ (
+    done,
+    (
+      free_row,
+      cond y
+          empty_flash (with_phase (closed_phase k (status_of x) b.phase) b),
+    ),
+  )
   unfolding on_flash close_flash
   close-free y p q =
       rw (ne_eqb (status_of x) running p)
@@ -146,7 +152,7 @@ module _ (s : State) (r : ℕ) (e : Entry) (words : (block row_words r).get s.se
 
   part-does : (cmd : Command) (q : Reply) (f : Entry) (b b' : FlashBody) (table : List ℕ)
       → on_flash (kind_of e.blob) t cmd (row_read r e s) s.flash_group ≡ (q, (row_read r f s, b)) → table ≡ (block row_words r).put (words_of f)
-          s.sessions.table → b ≡ b' → (q, after table b') ≡ on_row r t cmd s
+      s.sessions.table → b ≡ b' → (q, after table b') ≡ on_row r t cmd s
   part-does cmd q f b b' table h p u =
       does s r e words AtFlash place t cmd q (row_read r f s) b _ h (put-flash s r (row_read r f s) _ (row_kept r s.sessions (words_of f) table p) b b' u)
 
@@ -171,7 +177,7 @@ module _ (s : State) (r : ℕ) (e : Entry) (words : (block row_words r).get s.se
         ∙ written_has capacity len offset (length ws) (row_read r e s) s.flash_group accepted (λ (y : Written) (o : Out FlashBody). on_flash (kind_of e.blob) t (write offset ws)
         (row_read r e s) s.flash_group ≡ o → Left y ≡ on_row r t (write offset ws) s)
         (λ (p : offset ≤ len) (q : offset + length ws ≤ capacity) (u : on_flash (kind_of e.blob) t (write offset ws) (row_read r e s) s.flash_group ≡
-            accepted). part-does (write offset ws) done (lifted e t) _ _ _ u refl refl)
+        accepted). part-does (write offset ws) done (lifted e t) _ _ _ u refl refl)
         (λ (code : ℕ) (u : on_flash (kind_of e.blob) t (write offset ws) (row_read r e s) s.flash_group ≡ refuse code (row_read r e s) s.flash_group).
         ap (λ (y : FlashBody). (refused code, after s.sessions.table y)) same ∙ part-refuses (write offset ws) code u)
         h
@@ -217,8 +223,11 @@ module _ (s : State) (r : ℕ) (e : Entry) (words : (block row_words r).get s.se
       (put-flash s r free_row _ (row-freed r s.sessions table rows u1 u2) _ b (sym u3))
 
   -- SessionStat
-  stat-does : (table : List ℕ) → table ≡ (block row_words r).put (words_of (lifted e t)) s.sessions.table → (reply (stat_flash (kind_of e.blob)
-      (row_read r e s) s.flash_group), after table s.flash_group) ≡ on_row r t stat s
+  stat-does : (table : List ℕ) → table ≡ (block row_words r).put (words_of (lifted e t)) s.sessions.table → (
+    reply (stat_flash (kind_of e.blob)
+        (row_read r e s) s.flash_group),
+    after table s.flash_group,
+  ) ≡ on_row r t stat s
   unfolding on_flash
   stat-does table p = part-does stat _ (lifted e t) s.flash_group s.flash_group table refl p refl
 

@@ -47,8 +47,14 @@ stored_is [] t offset e used b h =
     ap (λ (n : ℕ). (done, (record { words = words_of (lifted e t); used = used }, with_staged b.staged_bytes n b))) q
 stored_is (x ∷ ws) t offset e used b h =
     let n : eqb (length (x ∷ ws)) 0 ≡ false = ne_eqb (length (x ∷ ws)) 0 (λ (z : length (x ∷ ws) ≡ 0). omega arith) in
-    ap (λ (y : Bool). (done, (record { words = words_of (lifted (cond y e (clean_set e 0)) t); used = used }, with_staged (sets b.staged_bytes offset
-        (x ∷ ws)) (max b.staged_len (offset + length (x ∷ ws))) b))) (sym n)
+    ap (λ (y : Bool). (
+      done,
+      (
+        record { words = words_of (lifted (cond y e (clean_set e 0)) t); used = used },
+        with_staged (sets b.staged_bytes offset
+            (x ∷ ws)) (max b.staged_len (offset + length (x ∷ ws))) b,
+      ),
+    )) (sym n)
 
 module _ (t : ℕ) (x : Row) (b : Slot) where
   write-reader : (offset : ℕ) (ws : List ℕ) → writes x ≡ false → on_store t (write offset ws) x b ≡ refuse not_supported x b
@@ -121,7 +127,7 @@ module _ (s : State) (r : ℕ) (e : Entry) (words : (block row_words r).get s.se
         let x : Row = row_read r e s in
         let b : Slot = slot_at k s in
         written_has slot_size b.staged_len offset (length ws) x b (stored t offset ws x b) (λ (y : Written) (o : Out Slot). on_store t
-            (write offset ws) x b ≡ o → Left y ≡ on_row r t (write offset ws) s)
+        (write offset ws) x b ≡ o → Left y ≡ on_row r t (write offset ws) s)
         (λ (h : offset ≤ b.staged_len) (l : offset + length ws ≤ slot_size) (u : on_store t (write offset ws) x b ≡ stored t offset ws x b).
         part-does (write offset ws) done (lifted (written_row ws e) t) _ _ _ (u ∙ stored_is ws t offset e (bit r s.sessions.rows) b h) refl
         (staged-put k s.store (sets s.store.staged (k * 4096 + offset) ws) _ _ (region-written k offset ws s.store.staged on.slot-low size l)))
@@ -205,7 +211,7 @@ module _ (s : State) (r : ℕ) (e : Entry) (words : (block row_words r).get s.se
       → shown ≡ part offset (read_count count offset (seen_length writing (slot_at k s))) (seen_bytes writing (slot_at k s)) → length shown ≡ n → fields_at + n ≤ length answer
       → after ≡ sets answer fields_at shown → table ≡ (block row_words r).put (words_of (lifted e t)) s.sessions.table
       → ((reply (part fields_at n after), with s (record { table = table; rows = s.sessions.rows }) s.store s.flash_group) ≡ on_row r t
-          (read offset count) s) × (after ≡ fields_laid (on_row r t (read offset count) s).0 answer)
+      (read offset count) s) × (after ≡ fields_laid (on_row r t (read offset count) s).0 answer)
   read_is offset count n writing table answer after shown pw ps pl room pa pt =
       let f : shown ≡ part offset (read_count count offset (seen_length (writes (row_read r e s)) (slot_at k s))) (seen_bytes (writes (row_read r e s)) (slot_at k s))
       = ps ∙ ap (λ (y : Bool). part offset (read_count count offset (seen_length y (slot_at k s))) (seen_bytes y (slot_at k s))) pw in
@@ -226,5 +232,11 @@ module _ (s : State) (r : ℕ) (e : Entry) (words : (block row_words r).get s.se
       → table ≡ (block row_words r).put (words_of (lifted e t)) s.sessions.table
       → (reply (stat_fields state size), with s (record { table = table; rows = s.sessions.rows }) s.store s.flash_group) ≡ on_row r t stat s
   stat-is state size writing table pw ps pn pt =
-      (λ i. (reply (stat_fields (ps i) ((pn ∙ ap (λ (y : Bool). seen_length y (slot_at k s)) pw) i)), with s (record { table = table; rows =
-          s.sessions.rows }) s.store s.flash_group)) ∙ stat-does table pt
+      (λ i. (
+        reply (stat_fields (ps i) ((pn ∙ ap (λ (y : Bool). seen_length y (slot_at k s)) pw) i)),
+        with s (record {
+          table = table;
+          rows =
+              s.sessions.rows;
+        }) s.store s.flash_group,
+      )) ∙ stat-does table pt

@@ -48,7 +48,7 @@ in-region k offset len from n l p q h = go (dec_lt len offset)
 pub seen : (writing : Bool) (k requested offset len from n x y : ℕ) (committed staged : List ℕ) → len ≡ cond writing x y → y ≤ slot_size → x ≤
     slot_size → n ≡ read_count requested offset len → from ≡ min offset len
     → part (k * 4096 + from) n (cond writing staged committed) ≡ part offset (read_count requested offset (cond writing x y)) (cond writing
-        ((block slot_size k).get staged) ((block slot_size k).get committed))
+    ((block slot_size k).get staged) ((block slot_size k).get committed))
 seen writing k requested offset len from n x y committed staged e yl xl pn pf = go writing e
   where
     go : (w : Bool) → len ≡ cond w x y → part (k * 4096 + from) n (cond w staged committed) ≡ part offset (read_count requested offset (cond w x y))

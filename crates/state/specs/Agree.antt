@@ -21,7 +21,8 @@ use Rattle.state.specs.declared.row.Place.TheVariants.{AtSlot, AtFlash}
 use Rattle.state.specs.State.{State, Slot, FlashBody, place_of, in_row, in_body}
 use Rattle.state.specs.Parts.{Separate, InRange, Shape, FitsSlot, row-view-fits, body-view-fits}
 use Rattle.state.specs.Words.{word_of, flags_in, status_in, clean_in, writing_in, writes_with, free_slot, ident, blob, in_use, Live}
-use Rattle.state.specs.Soundness.{slot_at, is_idle, is_uploading, is_verified, lent_right, values_fit, flash_fits, reader_clean, clean_committed, store_row, job_fits, flash_row, used_row, row_ok, rows_clash, rows_apart, writes_slot, has_writer}
+use Rattle.state.specs.Soundness.{slot_at, is_idle, is_uploading, is_verified, lent_right, values_fit, flash_fits, reader_clean, clean_committed}
+use Rattle.state.specs.Soundness.{store_row, job_fits, flash_row, used_row, row_ok, rows_clash, rows_apart, writes_slot, has_writer}
 use Rattle.state.specs.Soundness.{used_slot, unused_slot, slot_ok, names_apart, is_sound}
 use Rattle.state.specs.Facts.{StoreSession, StoreIdle, PhaseOk, FlashIdle, FlashSession, Session, Unheld, Sound}
 

@@ -75,7 +75,7 @@ module _ (b c : List ℕ) (whole : tray_form (b ++ c) ≡ success) (first : tray
   rest-long =
       let n = tray_most - length (messages_in b) in
       let e : bytes_in (messages_in (b ++ c)) ≡ bytes_in (messages_in b) + bytes_in (requests_in n c) = ap bytes_in (requests-joined tray_most b c
-          ((form b).accepted.0 first)) ∙ bytes-append (messages_in b) (requests_in n c) in
+      ((form b).accepted.0 first)) ∙ bytes-append (messages_in b) (requests_in n c) in
       omega (arith, (form b).accepted.0 first, (form (b ++ c)).accepted.0 whole, length-append b c)
 
   rest-same : messages_in c ≡ requests_in (tray_most - length (messages_in b)) c

@@ -127,7 +127,7 @@ pub reaches_end : (ls : List Lent) (b : List ℕ) (s : State) → is_sound s ≡
 reaches_end ls b s h f u v n =
     let x = (goes_on ls b s h f u).1 in
     let e : take (length (together (going_on ls b s) s).results) (messages_in b) ≡ messages_in b = ap (λ (k : ℕ). take k (messages_in b))
-        (all-reached ls b s h f u v n) ∙ take-length (messages_in b) in
+    (all-reached ls b s h f u v n) ∙ take-length (messages_in b) in
     let p = x.results-are ∙ ap (λ (qs : List Timed). map packed (answers_to qs s)) e in
     let q = x.responses-are ∙ ap (λ (qs : List Timed). end_to_end (answers_to qs s)) e in
     let r = x.state-is ∙ ap (λ (qs : List Timed). state_after qs s) e in

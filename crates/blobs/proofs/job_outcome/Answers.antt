@@ -18,6 +18,6 @@ end_job-requires c = (sound-of-test ((let a = c.args in state_of a.control a.tab
 pub returns : goal.returns
 returns c =
     outcome-taken c.args.good ((let a = c.args in state_of a.control a.table.now a.names.now a.committed.now a.staged.now a.image.now a.hash.now))
-        (sym c.sound.ensures ∙ not-false _ (ap not c.if-not-sound.false)) _ _ _
+    (sym c.sound.ensures ∙ not-false _ (ap not c.if-not-sound.false)) _ _ _
     (c.end_job.ensures 0 c.args.names.now c.args.committed.now c.args.staged.now c.args.image.now c.args.hash.now [])
     (c.code_of.ensures [])

@@ -1,5 +1,5 @@
 -- `put_words`: the words so far are the paste of what was passed.
-use Rattle.std.proofs.Common.{refl, ◌-◌, arith, get_or}
+use Rattle.std.proofs.Common.{refl, arith, get_or}
 use Rattle.memory_copy.specs.Laws.{stored-none, stored_more, stored-all}
 use Rattle.capi_control.proofs.put_words.Goals as goal
 

@@ -9,7 +9,7 @@ use Rattle.lookup.proofs.fresh_id.Given as goal
 abbrev pub invariant-loop-i : goal.invariant-loop-i
 invariant-loop-i l =
     (l.i ≤ row_count) × (((s : State) → fresh_from row_count l.next (with_rows l.rows l.table s) ≡ fresh_from (row_count - l.i) l.id
-        (with_rows l.rows l.table s)) × ((l.id < sixteen_bits) × TableLent l.table))
+    (with_rows l.rows l.table s)) × ((l.id < sixteen_bits) × TableLent l.table))
 
 abbrev pub decreases-loop-i : goal.decreases-loop-i
 decreases-loop-i l = row_count - l.i

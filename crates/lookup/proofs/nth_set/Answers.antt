@@ -1,5 +1,5 @@
 -- `nth_set`: the set bits passed so far are counted, and none of them is number i.
-use Rattle.std.proofs.Common.{◌≡◌, sym, ◌∙◌, add-one, arith, ◌-◌, ◌+◌, eqb-true}
+use Rattle.std.proofs.Common.{◌≡◌, sym, ◌∙◌, add-one, arith, ◌+◌, eqb-true}
 use Rattle.std.proofs.lemmas.Bool.{eqb-false}
 use Rattle.std.specs.Int.Count.{ones_in}
 use Rattle.laws.specs.Bits.{bit, bit-lt}
@@ -20,7 +20,7 @@ loop-k-preserved c = let k = c.loop-k.k in
     let m = c.args.mask in
     let e : ones_in (k + 1) m ≡ ones_in k m + bit k m = rw add-one (ones-more k m) in
     elim c.if-has.branch [
-      then-has+else-seen-i w ↦ let b : bit k m ≡ 1 = eqb-true _ _ (sym c.has.ensures ∙ w.if-has.true) in (omega arith, (omega arith, omega arith))
+      | then-has+else-seen-i w ↦ let b : bit k m ≡ 1 = eqb-true _ _ (sym c.has.ensures ∙ w.if-has.true) in (omega arith, (omega arith, omega arith))
       | else-has w ↦ let b : bit k m ≡ 0 = let f = eqb-false (bit k m) 1 (sym c.has.ensures ∙ w.if-has.false) in omega (arith, bit-lt k m, f) in (omega arith, (omega arith, omega arith))
     ]
 

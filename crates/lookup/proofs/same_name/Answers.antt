@@ -1,5 +1,5 @@
 -- `same_name`: the bytes passed so far agree.
-use Rattle.std.proofs.Common.{◌≡◌, sym, ◌∙◌, ap₂, ap, arith, ℕ, ◌-◌, ◌*◌, ◌+◌, eqb, length, get_or, rules}
+use Rattle.std.proofs.Common.{◌≡◌, sym, ◌∙◌, ap₂, ap, arith, ℕ, ◌*◌, ◌+◌, eqb, length, get_or, rules}
 use Rattle.laws.specs.All.{all_start, all-step, all_end}
 use Rattle.laws.specs.Bytes.{padded, padded-length}
 use Rattle.laws.specs.Ranges.{part, block, block-fits, get_d_part, length_part}

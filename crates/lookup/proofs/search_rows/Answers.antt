@@ -1,5 +1,5 @@
 -- `search_rows`: the rows behind are not the one wanted, and the used ones among them are counted.
-use Rattle.std.proofs.Common.{◌≡◌, sym, ◌∙◌, ap, subst, List, ℕ, ◌+◌, ◌-◌, arith}
+use Rattle.std.proofs.Common.{◌≡◌, sym, ◌∙◌, ap, subst, List, ℕ, ◌+◌, arith}
 use Rattle.std.specs.Int.Count.{count_trailing_zeros}
 use Rattle.laws.specs.Bits.{bit}
 use Rattle.lookup.specs.Laws.{row_in, RowsBehind, NextRow, rows_start, next_row, search-hit, search-miss, search-end}
@@ -33,7 +33,7 @@ pub returns-then-matches : goal.returns-then-matches
 returns-then-matches c =
     let a = c.args in
     search-hit a.w a.rows a.table.now c.loop-left.visits ((count_trailing_zeros 32 c.loop-left.left)) (next (goal.at.returns-then-matches
-        c).In-loop-left) (sym (tested (goal.at.returns-then-matches c).After-matches) ∙ c.if-matches.true)
+    c).In-loop-left) (sym (tested (goal.at.returns-then-matches c).After-matches) ∙ c.if-matches.true)
 
 pub overflow_add-visits : goal.overflow_add-visits
 overflow_add-visits c = omega (arith, (next (goal.at.overflow_add-visits c).In-loop-left).few)

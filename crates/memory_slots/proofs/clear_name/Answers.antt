@@ -1,5 +1,5 @@
 -- `clear_name`: from `clear_at`.
-use Rattle.std.proofs.Common.{◌∙◌, arith, ◌-◌}
+use Rattle.std.proofs.Common.{◌∙◌, arith}
 use Rattle.memory_slots.specs.Laws.{block-cleared}
 use Rattle.protocol.specs.Numbers.{name_size}
 use Rattle.protocol.proofs.Sizes.{name-size}

@@ -1,5 +1,5 @@
 -- `clear_region`: from `clear_at`.
-use Rattle.std.proofs.Common.{◌∙◌, arith, ◌-◌}
+use Rattle.std.proofs.Common.{◌∙◌, arith}
 use Rattle.memory_slots.specs.Laws.{block-cleared}
 use Rattle.protocol.specs.Numbers.{slot_size}
 use Rattle.protocol.proofs.Sizes.{slot-size}

@@ -1,5 +1,5 @@
 -- `copy_region`: from `copy_at`, lent a part of src.
-use Rattle.std.proofs.Common.{◌∙◌, arith, ◌-◌, rules}
+use Rattle.std.proofs.Common.{◌∙◌, arith, rules}
 use Rattle.memory_slots.specs.Laws.{block-copied}
 use Rattle.protocol.specs.Numbers.{slot_size}
 use Rattle.protocol.proofs.Sizes.{slot-size}

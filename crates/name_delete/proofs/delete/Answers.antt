@@ -21,18 +21,18 @@ unfolding delete_blob
 returns-in-Flash c =
     λ i h x.
     refused-leaves x c.refused.ensures (ap (λ (b : Blob). delete_blob b c.args.message.now ((let a = c.args in state_of a.control a.table.now
-        a.names.now a.committed.now a.staged.now i h))) (sym c.in-Flash.is))
+    a.names.now a.committed.now a.staged.now i h))) (sym c.in-Flash.is))
 
 pub returns-in-Base : goal.returns-in-Base
 unfolding delete_blob
 returns-in-Base c =
     λ i h x.
     refused-leaves x c.refused-in-Base.ensures (ap (λ (b : Blob). delete_blob b c.args.message.now ((let a = c.args in state_of a.control a.table.now
-        a.names.now a.committed.now a.staged.now i h))) (sym c.in-Base.is))
+    a.names.now a.committed.now a.staged.now i h))) (sym c.in-Base.is))
 
 pub returns-in-Unknown : goal.returns-in-Unknown
 unfolding delete_blob
 returns-in-Unknown c =
     λ i h x.
     refused-leaves x c.refused-in-Unknown.ensures (ap (λ (b : Blob). delete_blob b c.args.message.now ((let a = c.args in state_of a.control
-        a.table.now a.names.now a.committed.now a.staged.now i h))) (sym c.in-Unknown.is))
+    a.table.now a.names.now a.committed.now a.staged.now i h))) (sym c.in-Unknown.is))

@@ -1,5 +1,5 @@
 -- `flash_at`: the name sought is number `left` of those that are left.
-use Rattle.std.proofs.Common.{◌≡◌, sym, ◌∙◌, ap, ℕ, ◌+◌, ◌-◌, arith}
+use Rattle.std.proofs.Common.{◌≡◌, sym, ◌∙◌, ap, ℕ, ◌+◌, arith}
 use Rattle.name_list.specs.Laws.{at_first, at-shown, at-hidden, outside}
 use Rattle.name_list.specs.Listed.{behind, flash_from}
 use Rattle.name_list.specs.declared.Listed.TheVariants.{Flash}
@@ -19,7 +19,7 @@ loop-blob-init c = ap (λ (b : ℕ). flash_from (behind b) b c.args.phase c.args
 pub returns-then-left-eq0 : goal.returns-then-left-eq0
 returns-then-left-eq0 c =
     sym (c.loop-blob.invariant ∙ at_first c.args.phase c.loop-blob.blob (omega arith) c.loop-blob.left (is-listed (goal.at.returns-then-left-eq0
-        c).After-flash_listed ∙ c.if-flash_listed.true) c.if-left-eq0.true
+    c).After-flash_listed ∙ c.if-flash_listed.true) c.if-left-eq0.true
     ∙ ap Flash (sym c.kind_of-kind.ensures))
 
 pub loop-blob-preserved : goal.loop-blob-preserved
@@ -29,7 +29,7 @@ loop-blob-preserved c =
     let e = is-listed (goal.at.loop-blob-preserved c).After-flash_listed in
     let rest = flash_from (behind (b + 1)) (b + 1) p in
     elim c.if-flash_listed.branch [
-      then-flash_listed+else-left-eq0 w ↦ c.loop-blob.invariant ∙ at-shown p b (omega arith) c.loop-blob.left (e ∙ w.if-flash_listed.true) w.if-left-eq0.false ∙ ap rest (sym w.left-is)
+      | then-flash_listed+else-left-eq0 w ↦ c.loop-blob.invariant ∙ at-shown p b (omega arith) c.loop-blob.left (e ∙ w.if-flash_listed.true) w.if-left-eq0.false ∙ ap rest (sym w.left-is)
       | else-flash_listed w ↦ c.loop-blob.invariant ∙ at-hidden p b (omega arith) c.loop-blob.left (e ∙ w.if-flash_listed.false) ∙ ap rest (sym w.left-is)
     ]
 

@@ -1,5 +1,5 @@
 -- `flash_count`: those counted, and those that are left, are all.
-use Rattle.std.proofs.Common.{◌≡◌, sym, ◌∙◌, ap, ◌-◌, arith}
+use Rattle.std.proofs.Common.{◌≡◌, sym, ◌∙◌, ap, arith}
 use Rattle.name_list.specs.Laws.{few-listed, start-count, count-shown, count-hidden, none-behind}
 use Rattle.protocol.specs.Names.{kind_of}
 use Rattle.protocol.specs.declared.FlashKind.{FlashKind}
@@ -23,7 +23,7 @@ loop-blob-preserved c =
     let p = c.args.phase in
     let e = is-listed (goal.at.loop-blob-preserved c).After-flash_listed in
     elim c.if-flash_listed.branch [
-      then-flash_listed w ↦ omega (arith, count-shown p b (omega arith) (e ∙ w.if-flash_listed.true))
+      | then-flash_listed w ↦ omega (arith, count-shown p b (omega arith) (e ∙ w.if-flash_listed.true))
       | else-flash_listed w ↦ omega (arith, count-hidden p b (omega arith) (e ∙ w.if-flash_listed.false))
     ]
 

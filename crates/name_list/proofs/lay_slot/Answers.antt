@@ -1,5 +1,5 @@
 -- `lay_slot`: from `first_zero`, lent the name field, and `lay`, lent its front.
-use Rattle.std.proofs.Common.{◌∙◌, ap, arith, ◌-◌, ◌≤◌}
+use Rattle.std.proofs.Common.{◌∙◌, ap, arith, ◌≤◌}
 use Rattle.laws.specs.Bytes.{first_zero}
 use Rattle.laws.specs.Fronts.{block-lent, front-short, text-lent}
 use Rattle.protocol.proofs.Sizes.{name-size}

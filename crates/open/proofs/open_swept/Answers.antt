@@ -13,9 +13,26 @@ open_store-requires c =
     let a = c.args in
     let i = subst (BlobInside a.message.now) c.in-Store.is c.requires.0 in
     let g = c.requires.1 in
-    let p = (sound-of-test ((let a = c.args in state_of a.control a.table.now a.names.now a.committed.now a.staged.now a.image.now a.hash.now)) g).shape in
-    ((i.ends, i.short), (p.next_small, (p.table-size, (p.names-size, (p.committed-size, (p.staged-size, free-of-test ((let a = c.args in state_of
-        a.control a.table.now a.names.now a.committed.now a.staged.now a.image.now a.hash.now)) g))))))
+    let p = (sound-of-test ((let a = c.args in state_of a.control a.table.now a.names.now a.committed.now a.staged.now a.image.now a.hash.now)) g).shape in (
+      (i.ends, i.short),
+      (
+        p.next_small,
+        (
+          p.table-size,
+          (
+            p.names-size,
+            (
+              p.committed-size,
+              (
+                p.staged-size,
+                free-of-test ((let a = c.args in state_of
+                    a.control a.table.now a.names.now a.committed.now a.staged.now a.image.now a.hash.now)) g,
+              ),
+            ),
+          ),
+        ),
+      ),
+    )
 
 pub open_flash-requires : goal.open_flash-requires
 open_flash-requires c = let p = (sound-of-test ((let a = c.args in state_of a.control a.table.now a.names.now a.committed.now a.staged.now a.image.now
@@ -38,11 +55,11 @@ unfolding open_blob
 returns-in-Base c =
     let a = c.args in
     λ x. refused-leaves x c.refused.ensures (ap (λ (b : Blob). open_blob b a.flags a.clock a.message.now ((let a = c.args in state_of a.control
-        a.table.now a.names.now a.committed.now a.staged.now a.image.now a.hash.now))) (sym c.in-Base.is))
+    a.table.now a.names.now a.committed.now a.staged.now a.image.now a.hash.now))) (sym c.in-Base.is))
 
 pub returns-in-Unknown : goal.returns-in-Unknown
 unfolding open_blob
 returns-in-Unknown c =
     let a = c.args in
     λ x. refused-leaves x c.refused-in-Unknown.ensures (ap (λ (b : Blob). open_blob b a.flags a.clock a.message.now ((let a = c.args in state_of
-        a.control a.table.now a.names.now a.committed.now a.staged.now a.image.now a.hash.now))) (sym c.in-Unknown.is))
+    a.control a.table.now a.names.now a.committed.now a.staged.now a.image.now a.hash.now))) (sym c.in-Unknown.is))

@@ -17,4 +17,4 @@ returns c =
     λ t n i h.
     let a = c.args in
     held-written a.k a.flags ((let a = c.args in state_of a.control t n a.committed.now a.staged.now i h)) (sym c.writes_with.ensures ∙ not-false _
-        (ap not c.if-not-writes_with.false)) _ c.copy_region.ensures
+    (ap not c.if-not-writes_with.false)) _ c.copy_region.ensures

@@ -21,7 +21,7 @@ pub returns-in_default-lowest_free : goal.returns-in_default-lowest_free
 returns-in_default-lowest_free c =
     let a = c.args in
     λ d g i h x _. refused-leaves x c.refused-in_default-lowest_free.ensures (new-no-slot (part a.start a.len a.message.now) a.flags a.clock
-        ((let a = c.args in state_of a.control a.table.now a.names.now d g i h))
+    ((let a = c.args in state_of a.control a.table.now a.names.now d g i h))
     c.in-At.r (sym c.lowest_free.ensures ∙ ap option_of c.in-At.is)
     (sym c.lowest_free-2.ensures ∙ ap option_of c.in_default-lowest_free.is))
 

@@ -1,5 +1,5 @@
 -- `open_sweep::sweep` meets its contract. The invariant: the rows passed are swept, and what is lent keeps its lengths. Assumes nothing.
-use Rattle.std.proofs.Common.{ap, sym, ◌∙◌, ◌-◌, arith}
+use Rattle.std.proofs.Common.{ap, sym, ◌∙◌, arith}
 use Rattle.std.proofs.lemmas.Bool.{not-true, not-false}
 use Rattle.std.specs.Prelude.{not}
 use Rattle.open_sweep.proofs.Laws.{none-swept, one_more, not-due, all-swept}
@@ -35,12 +35,12 @@ loop-r-preserved c = (
     ),
     one_more
         c.args.clock c.loop-r.r ((let a = c.args in state_of a.control a.table.now a.names.now a.committed.now a.staged.now a.image.now a.hash.now)) _
-            _ c.loop-r.invariant.1.1 c.sweep_row-next.ensures,
+        _ c.loop-r.invariant.1.1 c.sweep_row-next.ensures,
   ),
 )
 
 pub returns : goal.returns
 returns c =
     all-swept c.args.clock ((let a = c.args in state_of a.control a.table.now a.names.now a.committed.now a.staged.now a.image.now a.hash.now))
-        (sym c.is_due.ensures ∙ not-false _ (ap not c.if-not-is_due.false))
+    (sym c.is_due.ensures ∙ not-false _ (ap not c.if-not-is_due.false))
     c.loop-r.r _ (omega arith) c.loop-r.invariant.1.1

@@ -10,7 +10,7 @@ abbrev pub invariant-loop-r : goal.invariant-loop-r
 invariant-loop-r l =
     (l.r ≤ row_count) × ((TableLent l.table × (NamesLent l.names × (RegionsLent l.committed × (RegionsLent l.staged × (ImageLent l.image × HashLent l.hash)))))
     × (state_of l.next l.table l.names l.committed l.staged l.image l.hash ≡ sweep_rows l.clock l.r (state_of l.initial.next l.initial.table
-        l.initial.names l.initial.committed l.initial.staged l.initial.image l.initial.hash)))
+    l.initial.names l.initial.committed l.initial.staged l.initial.image l.initial.hash)))
 
 abbrev pub decreases-loop-r : goal.decreases-loop-r
 decreases-loop-r l = row_count - l.r

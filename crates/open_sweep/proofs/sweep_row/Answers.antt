@@ -11,7 +11,7 @@ use Rattle.open_sweep.proofs.sweep_row.Goals as goal
 pub returns-then-not-has : goal.returns-then-not-has
 returns-then-not-has c =
     row-unused c.args.clock c.args.r ((let a = c.args in state_of a.control a.table.now a.names.now a.committed.now a.staged.now a.image.now
-        a.hash.now)) (sym c.has.ensures ∙ not-true _ (ap not c.if-not-has.true))
+    a.hash.now)) (sym c.has.ensures ∙ not-true _ (ap not c.if-not-has.true))
 
 pub read_row-e-requires : goal.read_row-e-requires
 read_row-e-requires c = (c.requires.1.0, c.requires.0)
@@ -35,7 +35,7 @@ pub returns-in-AtSlot : goal.returns-in-AtSlot
 returns-in-AtSlot c =
     let a = c.args in
     row-closed a.clock a.r ((let a = c.args in state_of a.control a.table.now a.names.now a.committed.now a.staged.now a.image.now a.hash.now))
-        c.read_row-e.result c.read_row-e.ensures (sym c.has.ensures ∙ not-false _ (ap not c.if-not-has.false)) _ c.is_stale.ensures
+    c.read_row-e.result c.read_row-e.ensures (sym c.has.ensures ∙ not-false _ (ap not c.if-not-has.false)) _ c.is_stale.ensures
     (not-false _ (ap not c.if-not-is_stale.false)) _
     (ap (λ (x : Reply × State). x.1) (c.close-act.ensures a.clock a.image.now a.hash.now []))
 
@@ -43,6 +43,6 @@ pub returns-in-AtFlash : goal.returns-in-AtFlash
 returns-in-AtFlash c =
     let a = c.args in
     row-closed a.clock a.r ((let a = c.args in state_of a.control a.table.now a.names.now a.committed.now a.staged.now a.image.now a.hash.now))
-        c.read_row-e.result c.read_row-e.ensures (sym c.has.ensures ∙ not-false _ (ap not c.if-not-has.false)) _ c.is_stale.ensures
+    c.read_row-e.result c.read_row-e.ensures (sym c.has.ensures ∙ not-false _ (ap not c.if-not-has.false)) _ c.is_stale.ensures
     (not-false _ (ap not c.if-not-is_stale.false)) _
     (ap (λ (x : Reply × State). x.1) (c.close-act-in-AtFlash.ensures a.clock a.names.now a.committed.now a.staged.now []))

@@ -16,25 +16,32 @@ pub returns-then-not-able : goal.returns-then-not-able
 returns-then-not-able c =
     let a = c.args in
     not-able a.clock a.request.now ((let a = c.args in state_of a.control a.table.now a.names.now a.committed.now a.staged.now a.image.now
-        a.hash.now)) a.answer.now (sym c.requires ∙ not-true _ (ap not c.if-not-able.true))
+    a.hash.now)) a.answer.now (sym c.requires ∙ not-true _ (ap not c.if-not-able.true))
 
 pub serve-act-requires : goal.serve-act-requires
-serve-act-requires c =
-    (is-sound ((let a = c.args in state_of a.control a.table.now a.names.now a.committed.now a.staged.now a.image.now a.hash.now)) c.args.answer.now
-        (tested (goal.at.serve-act-requires c).Else-not-able), (c.decode-asked.ensures, has-size ((let a = c.args in state_of a.control a.table.now
-        a.names.now a.committed.now a.staged.now a.image.now a.hash.now)) c.args.answer.now (tested (goal.at.serve-act-requires c).Else-not-able)))
+serve-act-requires c = (
+  is-sound ((let a = c.args in state_of a.control a.table.now a.names.now a.committed.now a.staged.now a.image.now a.hash.now)) c.args.answer.now
+      (tested (goal.at.serve-act-requires c).Else-not-able),
+  (
+    c.decode-asked.ensures,
+    has-size ((let a = c.args in state_of a.control a.table.now
+        a.names.now a.committed.now a.staged.now a.image.now a.hash.now)) c.args.answer.now (tested (goal.at.serve-act-requires c).Else-not-able),
+  ),
+)
 
 pub finish-sent-requires : goal.finish-sent-requires
-finish-sent-requires c =
-    (c.answer-1.given ∙ has-size ((let a = c.args in state_of a.control a.table.now a.names.now a.committed.now a.staged.now a.image.now a.hash.now))
-        c.args.answer.now (tested (goal.at.finish-sent-requires c).Else-not-able), c.serve-act.ensures.1)
+finish-sent-requires c = (
+  c.answer-1.given ∙ has-size ((let a = c.args in state_of a.control a.table.now a.names.now a.committed.now a.staged.now a.image.now a.hash.now))
+      c.args.answer.now (tested (goal.at.finish-sent-requires c).Else-not-able),
+  c.serve-act.ensures.1,
+)
 
 pub returns : goal.returns
 returns c =
     let a = c.args in
     answers a.clock a.request.now ((let a = c.args in state_of a.control a.table.now a.names.now a.committed.now a.staged.now a.image.now a.hash.now))
-        a.answer.now (has-size ((let a = c.args in state_of a.control a.table.now a.names.now a.committed.now a.staged.now a.image.now a.hash.now))
-        a.answer.now (tested (goal.at.returns c).Else-not-able))
+    a.answer.now (has-size ((let a = c.args in state_of a.control a.table.now a.names.now a.committed.now a.staged.now a.image.now a.hash.now))
+    a.answer.now (tested (goal.at.returns c).Else-not-able))
     (is-sound ((let a = c.args in state_of a.control a.table.now a.names.now a.committed.now a.staged.now a.image.now a.hash.now)) a.answer.now (tested (goal.at.returns c).Else-not-able))
     c.decode-asked.result c.decode-asked.ensures _ _ _ c.serve-act.ensures.0 _ c.number.ensures _ _ _
     c.finish-sent.ensures.0.0 c.finish-sent.ensures.0.1 c.finish-sent.ensures.1

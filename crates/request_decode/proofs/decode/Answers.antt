@@ -40,7 +40,7 @@ crc_fits-requires c = omega (arith, some-body _ _ c.if-sub-eq-COUNT.false (fits 
 pub returns-then-not-crc_fits : goal.returns-then-not-crc_fits
 returns-then-not-crc_fits c =
     wrong-crc _ (passed (goal.at.returns-then-not-crc_fits c).Else-not-is_oem) c.if-sub-gt-WRITE_META.false (fits (goal.at.returns-then-not-crc_fits
-        c).Else-not-body_fits) _ c.fields_of-f.ensures _ c.crc_fits.ensures c.if-sub-eq-COUNT.false
+    c).Else-not-body_fits) _ c.fields_of-f.ensures _ c.crc_fits.ensures c.if-sub-eq-COUNT.false
     (ap not c.if-not-crc_fits.true)
 
 pub request_of-requires : goal.request_of-requires
@@ -49,5 +49,5 @@ request_of-requires c = ((omega arith, omega arith), (fits (goal.at.request_of-r
 pub returns : goal.returns
 returns c =
     request-is _ (passed (goal.at.returns c).Else-not-is_oem) c.if-sub-gt-WRITE_META.false (fits (goal.at.returns c).Else-not-body_fits) _
-        c.fields_of-f.ensures _ c.crc_fits.ensures c.if-sub-eq-COUNT.false _
+    c.fields_of-f.ensures _ c.crc_fits.ensures c.if-sub-eq-COUNT.false _
     (ap not c.if-not-crc_fits.false) c.request_of.ensures

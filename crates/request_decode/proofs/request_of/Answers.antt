@@ -11,23 +11,39 @@ use Rattle.request_decode.proofs.request_of.Goals.{In-2, In-5, In-7, In-8, In_de
 -- where the name starts, and what follows Commit's length byte, lies in the message
 open-rest : (c : In-2) → 4 + c.args.f.rest ≤ length c.args.message.now
 unfolding widths_of
-open-rest c = omega (arith, ap (λ (g : Fields). g.rest) ((let the-fact : c.args.f ≡ fields_in 2 c.args.message.now = c.requires.1.1 ∙ ap
-    (λ (x : ℕ). fields_in x c.args.message.now) c.in-2.is in the-fact)), open-body _ _ c.in-2.is c.requires.1.0)
+open-rest c = omega (
+  arith,
+  ap (λ (g : Fields). g.rest) ((let the-fact : c.args.f ≡ fields_in 2 c.args.message.now = c.requires.1.1 ∙ ap
+      (λ (x : ℕ). fields_in x c.args.message.now) c.in-2.is in the-fact)),
+  open-body _ _ c.in-2.is c.requires.1.0,
+)
 
 commit-rest : (c : In-5) → 4 + c.args.f.rest ≤ length c.args.message.now
 unfolding widths_of
-commit-rest c = omega (arith, ap (λ (g : Fields). g.rest) ((let the-fact : c.args.f ≡ fields_in 5 c.args.message.now = c.requires.1.1 ∙ ap
-    (λ (x : ℕ). fields_in x c.args.message.now) c.in-5.is in the-fact)), commit-body _ _ c.in-5.is c.requires.1.0)
+commit-rest c = omega (
+  arith,
+  ap (λ (g : Fields). g.rest) ((let the-fact : c.args.f ≡ fields_in 5 c.args.message.now = c.requires.1.1 ∙ ap
+      (λ (x : ℕ). fields_in x c.args.message.now) c.in-5.is in the-fact)),
+  commit-body _ _ c.in-5.is c.requires.1.0,
+)
 
 delete-rest : (c : In-7) → 4 + c.args.f.rest ≤ length c.args.message.now
 unfolding widths_of
-delete-rest c = omega (arith, ap (λ (g : Fields). g.rest) ((let the-fact : c.args.f ≡ fields_in 7 c.args.message.now = c.requires.1.1 ∙ ap
-    (λ (x : ℕ). fields_in x c.args.message.now) c.in-7.is in the-fact)), name_body 6 _ _ c.in-7.is c.requires.1.0)
+delete-rest c = omega (
+  arith,
+  ap (λ (g : Fields). g.rest) ((let the-fact : c.args.f ≡ fields_in 7 c.args.message.now = c.requires.1.1 ∙ ap
+      (λ (x : ℕ). fields_in x c.args.message.now) c.in-7.is in the-fact)),
+  name_body 6 _ _ c.in-7.is c.requires.1.0,
+)
 
 stat-rest : (c : In-8) → 4 + c.args.f.rest ≤ length c.args.message.now
 unfolding widths_of
-stat-rest c = omega (arith, ap (λ (g : Fields). g.rest) ((let the-fact : c.args.f ≡ fields_in 8 c.args.message.now = c.requires.1.1 ∙ ap
-    (λ (x : ℕ). fields_in x c.args.message.now) c.in-8.is in the-fact)), name_body 7 _ _ c.in-8.is c.requires.1.0)
+stat-rest c = omega (
+  arith,
+  ap (λ (g : Fields). g.rest) ((let the-fact : c.args.f ≡ fields_in 8 c.args.message.now = c.requires.1.1 ∙ ap
+      (λ (x : ℕ). fields_in x c.args.message.now) c.in-8.is in the-fact)),
+  name_body 7 _ _ c.in-8.is c.requires.1.0,
+)
 
 -- the arm that is left is the last subcommand's
 last : (c : In_default) → c.args.sub ≡ 10
@@ -48,45 +64,57 @@ returns-then-not-ends_in_name c = rw c.in-2.is (open-bad _ _ _ c.ends_in_name.en
 
 pub overflow_cast-result : goal.overflow_cast-result
 unfolding widths_of
-overflow_cast-result c = record { fits = (let the-fact : c.args.f.first < 65536 = (let the-fact : _ < 256 ^ 2 = fits c.args.message.now
-    (λ (i : ℕ). (c.shared_slice_known-1.given i).fits) 2 2 _ (ap (λ (g : Fields). g.first) ((let the-fact : c.args.f ≡ fields_in 2
-    c.args.message.now = c.requires.1.1 ∙ ap (λ (x : ℕ). fields_in x c.args.message.now) c.in-2.is in the-fact))) in the-fact) in the-fact) }
+overflow_cast-result c = record {
+  fits = (let the-fact : c.args.f.first < 65536 = (let the-fact : _ < 256 ^ 2 = fits c.args.message.now
+      (λ (i : ℕ). (c.shared_slice_known-1.given i).fits) 2 2 _ (ap (λ (g : Fields). g.first) ((let the-fact : c.args.f ≡ fields_in 2
+      c.args.message.now = c.requires.1.1 ∙ ap (λ (x : ℕ). fields_in x c.args.message.now) c.in-2.is in the-fact))) in the-fact) in the-fact);
+}
 
 pub blob_at-requires : goal.blob_at-requires
 blob_at-requires c = open-rest (goal.at.blob_at-requires c).In-2
 
 pub overflow_cast-result-in-3 : goal.overflow_cast-result-in-3
 unfolding widths_of
-overflow_cast-result-in-3 c = record { fits = (let the-fact : c.args.f.first < 65536 = (let the-fact : _ < 256 ^ 2 = fits c.args.message.now
-    (λ (i : ℕ). (c.shared_slice_known-1.given i).fits) 2 2 _ (ap (λ (g : Fields). g.first) ((let the-fact : c.args.f ≡ fields_in 3
-    c.args.message.now = c.requires.1.1 ∙ ap (λ (x : ℕ). fields_in x c.args.message.now) c.in-3.is in the-fact))) in the-fact) in the-fact) }
+overflow_cast-result-in-3 c = record {
+  fits = (let the-fact : c.args.f.first < 65536 = (let the-fact : _ < 256 ^ 2 = fits c.args.message.now
+      (λ (i : ℕ). (c.shared_slice_known-1.given i).fits) 2 2 _ (ap (λ (g : Fields). g.first) ((let the-fact : c.args.f ≡ fields_in 3
+      c.args.message.now = c.requires.1.1 ∙ ap (λ (x : ℕ). fields_in x c.args.message.now) c.in-3.is in the-fact))) in the-fact) in the-fact);
+}
 
 pub overflow_cast-result-in-4 : goal.overflow_cast-result-in-4
 unfolding widths_of
-overflow_cast-result-in-4 c = record { fits = (let the-fact : c.args.f.first < 65536 = (let the-fact : _ < 256 ^ 2 = fits c.args.message.now
-    (λ (i : ℕ). (c.shared_slice_known-1.given i).fits) 2 2 _ (ap (λ (g : Fields). g.first) ((let the-fact : c.args.f ≡ fields_in 4
-    c.args.message.now = c.requires.1.1 ∙ ap (λ (x : ℕ). fields_in x c.args.message.now) c.in-4.is in the-fact))) in the-fact) in the-fact) }
+overflow_cast-result-in-4 c = record {
+  fits = (let the-fact : c.args.f.first < 65536 = (let the-fact : _ < 256 ^ 2 = fits c.args.message.now
+      (λ (i : ℕ). (c.shared_slice_known-1.given i).fits) 2 2 _ (ap (λ (g : Fields). g.first) ((let the-fact : c.args.f ≡ fields_in 4
+      c.args.message.now = c.requires.1.1 ∙ ap (λ (x : ℕ). fields_in x c.args.message.now) c.in-4.is in the-fact))) in the-fact) in the-fact);
+}
 
 pub overflow_cast-result-in-5 : goal.overflow_cast-result-in-5
 unfolding widths_of
-overflow_cast-result-in-5 c = record { fits = (let the-fact : c.args.f.first < 65536 = (let the-fact : _ < 256 ^ 2 = fits c.args.message.now
-    (λ (i : ℕ). (c.shared_slice_known-1.given i).fits) 2 2 _ (ap (λ (g : Fields). g.first) ((let the-fact : c.args.f ≡ fields_in 5
-    c.args.message.now = c.requires.1.1 ∙ ap (λ (x : ℕ). fields_in x c.args.message.now) c.in-5.is in the-fact))) in the-fact) in the-fact) }
+overflow_cast-result-in-5 c = record {
+  fits = (let the-fact : c.args.f.first < 65536 = (let the-fact : _ < 256 ^ 2 = fits c.args.message.now
+      (λ (i : ℕ). (c.shared_slice_known-1.given i).fits) 2 2 _ (ap (λ (g : Fields). g.first) ((let the-fact : c.args.f ≡ fields_in 5
+      c.args.message.now = c.requires.1.1 ∙ ap (λ (x : ℕ). fields_in x c.args.message.now) c.in-5.is in the-fact))) in the-fact) in the-fact);
+}
 
 pub overflow_cast-result-in-5-2 : goal.overflow_cast-result-in-5-2
 unfolding widths_of
-overflow_cast-result-in-5-2 c = record { fits = (let the-fact : _ < 256 ^ 1 = fits c.args.message.now (λ (i : ℕ). (c.shared_slice_known-1.given
-    i).fits) 1 4 _ (ap (λ (g : Fields). g.second) ((let the-fact : c.args.f ≡ fields_in 5 c.args.message.now = c.requires.1.1 ∙ ap
-    (λ (x : ℕ). fields_in x c.args.message.now) c.in-5.is in the-fact))) in the-fact) }
+overflow_cast-result-in-5-2 c = record {
+  fits = (let the-fact : _ < 256 ^ 1 = fits c.args.message.now (λ (i : ℕ). (c.shared_slice_known-1.given
+      i).fits) 1 4 _ (ap (λ (g : Fields). g.second) ((let the-fact : c.args.f ≡ fields_in 5 c.args.message.now = c.requires.1.1 ∙ ap
+      (λ (x : ℕ). fields_in x c.args.message.now) c.in-5.is in the-fact))) in the-fact);
+}
 
 pub overflow_sub-result : goal.overflow_sub-result
 overflow_sub-result c = commit-rest (goal.at.overflow_sub-result c).In-5
 
 pub overflow_cast-result-in-6 : goal.overflow_cast-result-in-6
 unfolding widths_of
-overflow_cast-result-in-6 c = record { fits = (let the-fact : c.args.f.first < 65536 = (let the-fact : _ < 256 ^ 2 = fits c.args.message.now
-    (λ (i : ℕ). (c.shared_slice_known-1.given i).fits) 2 2 _ (ap (λ (g : Fields). g.first) ((let the-fact : c.args.f ≡ fields_in 6
-    c.args.message.now = c.requires.1.1 ∙ ap (λ (x : ℕ). fields_in x c.args.message.now) c.in-6.is in the-fact))) in the-fact) in the-fact) }
+overflow_cast-result-in-6 c = record {
+  fits = (let the-fact : c.args.f.first < 65536 = (let the-fact : _ < 256 ^ 2 = fits c.args.message.now
+      (λ (i : ℕ). (c.shared_slice_known-1.given i).fits) 2 2 _ (ap (λ (g : Fields). g.first) ((let the-fact : c.args.f ≡ fields_in 6
+      c.args.message.now = c.requires.1.1 ∙ ap (λ (x : ℕ). fields_in x c.args.message.now) c.in-6.is in the-fact))) in the-fact) in the-fact);
+}
 
 pub ends_in_name-requires-in-7 : goal.ends_in_name-requires-in-7
 ends_in_name-requires-in-7 c = delete-rest (goal.at.ends_in_name-requires-in-7 c).In-7
@@ -110,15 +138,19 @@ blob_at-requires-in-8 c = stat-rest (goal.at.blob_at-requires-in-8 c).In-8
 
 pub overflow_cast-result-in-9 : goal.overflow_cast-result-in-9
 unfolding widths_of
-overflow_cast-result-in-9 c = record { fits = (let the-fact : c.args.f.first < 65536 = (let the-fact : _ < 256 ^ 2 = fits c.args.message.now
-    (λ (i : ℕ). (c.shared_slice_known-1.given i).fits) 2 2 _ (ap (λ (g : Fields). g.first) ((let the-fact : c.args.f ≡ fields_in 9
-    c.args.message.now = c.requires.1.1 ∙ ap (λ (x : ℕ). fields_in x c.args.message.now) c.in-9.is in the-fact))) in the-fact) in the-fact) }
+overflow_cast-result-in-9 c = record {
+  fits = (let the-fact : c.args.f.first < 65536 = (let the-fact : _ < 256 ^ 2 = fits c.args.message.now
+      (λ (i : ℕ). (c.shared_slice_known-1.given i).fits) 2 2 _ (ap (λ (g : Fields). g.first) ((let the-fact : c.args.f ≡ fields_in 9
+      c.args.message.now = c.requires.1.1 ∙ ap (λ (x : ℕ). fields_in x c.args.message.now) c.in-9.is in the-fact))) in the-fact) in the-fact);
+}
 
 pub overflow_cast-result-in_default : goal.overflow_cast-result-in_default
 unfolding widths_of
-overflow_cast-result-in_default c = record { fits = (let the-fact : c.args.f.first < 65536 = (let the-fact : _ < 256 ^ 2 = fits c.args.message.now
-    (λ (i : ℕ). (c.shared_slice_known-1.given i).fits) 2 2 _ (ap (λ (g : Fields). g.first) ((let the-fact : c.args.f ≡ fields_in 10
-    c.args.message.now = c.requires.1.1 ∙ ap (λ (x : ℕ). fields_in x c.args.message.now) (last (goal.at.overflow_cast-result-in_default c).In_default) in the-fact))) in the-fact) in the-fact) }
+overflow_cast-result-in_default c = record {
+  fits = (let the-fact : c.args.f.first < 65536 = (let the-fact : _ < 256 ^ 2 = fits c.args.message.now
+      (λ (i : ℕ). (c.shared_slice_known-1.given i).fits) 2 2 _ (ap (λ (g : Fields). g.first) ((let the-fact : c.args.f ≡ fields_in 10
+      c.args.message.now = c.requires.1.1 ∙ ap (λ (x : ℕ). fields_in x c.args.message.now) (last (goal.at.overflow_cast-result-in_default c).In_default) in the-fact))) in the-fact) in the-fact);
+}
 
 pub returns-in-1 : goal.returns-in-1
 returns-in-1 c = rw c.in-1.is (enumerate-is _ _ ((let the-fact : c.args.f ≡ fields_in 1 c.args.message.now = c.requires.1.1 ∙ ap (λ (x : ℕ). fields_in x c.args.message.now) c.in-1.is in the-fact)))
@@ -126,7 +158,7 @@ returns-in-1 c = rw c.in-1.is (enumerate-is _ _ ((let the-fact : c.args.f ≡ fi
 pub returns-else-not-ends_in_name : goal.returns-else-not-ends_in_name
 returns-else-not-ends_in_name c =
     rw c.in-2.is (open-good _ _ _ c.ends_in_name.ensures ((let the-fact : c.args.f ≡ fields_in 2 c.args.message.now = c.requires.1.1 ∙ ap
-        (λ (x : ℕ). fields_in x c.args.message.now) c.in-2.is in the-fact)) _ (ap not c.if-not-ends_in_name.false) c.blob_at.ensures)
+    (λ (x : ℕ). fields_in x c.args.message.now) c.in-2.is in the-fact)) _ (ap not c.if-not-ends_in_name.false) c.blob_at.ensures)
 
 pub returns-in-3 : goal.returns-in-3
 returns-in-3 c = rw c.in-3.is (read_is _ _ ((let the-fact : c.args.f ≡ fields_in 3 c.args.message.now = c.requires.1.1 ∙ ap (λ (x : ℕ). fields_in x c.args.message.now) c.in-3.is in the-fact)))

@@ -28,7 +28,7 @@ inside c {q} e = inside_of c.args.message.now c.args.asked q c.requires.1.0 e
 answers : (c : Start) {said : Said} {x : Reply × State} {b : List ℕ} {q : Request} → c.args.asked ≡ q
     → Serves said x b q c.args.clock c.args.message.now ((let a = c.args in state_of a.control a.table.now a.names.now a.committed.now a.staged.now a.image.now a.hash.now)) c.args.answer.now
     → ((x, b) ≡ readied c.args.asked c.args.clock c.args.message.now ((let a = c.args in state_of a.control a.table.now a.names.now a.committed.now
-        a.staged.now a.image.now a.hash.now)) c.args.answer.now) × (fields_length said ≤ read_most)
+    a.staged.now a.image.now a.hash.now)) c.args.answer.now) × (fields_length said ≤ read_most)
 answers c {said} {x} {b} {q} e h = asked_is said x c.args.answer.now b c.args.clock c.args.message.now ((let a = c.args in state_of a.control
     a.table.now a.names.now a.committed.now a.staged.now a.image.now a.hash.now)) q c.args.asked e h
 
@@ -45,9 +45,20 @@ open-requires c =
 
 pub read-requires : goal.read-requires
 read-requires c =
-    let g = shape (goal.at.read-requires c).Start in
-    (g.table-size, (g.committed-size, (g.staged-size, (c.requires.1.1, lengths-fit ((let a = c.args in state_of a.control a.table.now a.names.now
-        a.committed.now a.staged.now a.image.now a.hash.now)) c.requires.0))))
+    let g = shape (goal.at.read-requires c).Start in (
+      g.table-size,
+      (
+        g.committed-size,
+        (
+          g.staged-size,
+          (
+            c.requires.1.1,
+            lengths-fit ((let a = c.args in state_of a.control a.table.now a.names.now
+                a.committed.now a.staged.now a.image.now a.hash.now)) c.requires.0,
+          ),
+        ),
+      ),
+    )
 
 pub slice_bounds-write-count : goal.slice_bounds-write-count
 slice_bounds-write-count c =
@@ -94,9 +105,12 @@ unfolding answered
 returns-in-Count c =
     let a = c.args in
     answers (goal.at.returns-in-Count c).Start c.in-Count.is (plain _ _ _ _ _ refl c.count.result ((let a = c.args in state_of a.control a.table.now
-        a.names.now a.committed.now a.staged.now a.image.now a.hash.now))
-    (λ (b : List ℕ). ap (λ (r : Reply). (r, (let a = c.args in state_of a.control a.table.now a.names.now a.committed.now a.staged.now a.image.now
-        a.hash.now))) (c.count.ensures a.table.now a.names.now a.committed.now a.staged.now a.image.now a.hash.now b)))
+    a.names.now a.committed.now a.staged.now a.image.now a.hash.now))
+    (λ (b : List ℕ). ap (λ (r : Reply). (
+      r,
+      (let a = c.args in state_of a.control a.table.now a.names.now a.committed.now a.staged.now a.image.now
+          a.hash.now),
+    )) (c.count.ensures a.table.now a.names.now a.committed.now a.staged.now a.image.now a.hash.now b)))
 
 pub returns-in-Enumerate : goal.returns-in-Enumerate
 unfolding answered
@@ -105,7 +119,7 @@ returns-in-Enumerate c =
     let e = c.enumerate.ensures a.table.now a.committed.now a.staged.now a.image.now a.hash.now in
     answers (goal.at.returns-in-Enumerate c).Start c.in-Enumerate.is
     (laying _ _ _ _ _ refl c.enumerate.result ((let a = c.args in state_of a.control a.table.now a.names.now a.committed.now a.staged.now a.image.now
-        a.hash.now)) _ (ap (λ (r : Reply). (r, (let a = c.args in state_of a.control a.table.now a.names.now a.committed.now a.staged.now a.image.now a.hash.now))) e.says) e.short e.lays)
+    a.hash.now)) _ (ap (λ (r : Reply). (r, (let a = c.args in state_of a.control a.table.now a.names.now a.committed.now a.staged.now a.image.now a.hash.now))) e.says) e.short e.lays)
 
 pub returns-in-Open : goal.returns-in-Open
 unfolding answered
@@ -125,7 +139,7 @@ returns-in-Write c =
     let a = c.args in
     answers (goal.at.returns-in-Write c).Start c.in-Write.is (plain _ _ _ _ _ refl c.write.result.said _
     (λ (b : List ℕ). write-rest _ a.clock _ _ a.message.now ((let a = c.args in state_of a.control a.table.now a.names.now a.committed.now
-        a.staged.now a.image.now a.hash.now)) _ (c.write.ensures a.names.now a.committed.now b)))
+    a.staged.now a.image.now a.hash.now)) _ (c.write.ensures a.names.now a.committed.now b)))
 
 pub returns-in-Commit : goal.returns-in-Commit
 unfolding answered
@@ -150,9 +164,12 @@ unfolding answered
 returns-in-Stat c =
     let a = c.args in
     answers (goal.at.returns-in-Stat c).Start c.in-Stat.is (plain _ _ _ _ _ refl c.stat.result ((let a = c.args in state_of a.control a.table.now
-        a.names.now a.committed.now a.staged.now a.image.now a.hash.now))
-    (λ (b : List ℕ). ap (λ (r : Reply). (r, (let a = c.args in state_of a.control a.table.now a.names.now a.committed.now a.staged.now a.image.now
-        a.hash.now))) (c.stat.ensures a.committed.now a.staged.now a.image.now a.hash.now b)))
+    a.names.now a.committed.now a.staged.now a.image.now a.hash.now))
+    (λ (b : List ℕ). ap (λ (r : Reply). (
+      r,
+      (let a = c.args in state_of a.control a.table.now a.names.now a.committed.now a.staged.now a.image.now
+          a.hash.now),
+    )) (c.stat.ensures a.committed.now a.staged.now a.image.now a.hash.now b)))
 
 pub returns-in-SessionStat : goal.returns-in-SessionStat
 unfolding answered

@@ -1,5 +1,5 @@
 -- `keep_rest`: the bytes moved so far stand at the front, and those behind are where they were.
-use Rattle.std.proofs.Common.{refl, sym, ◌∙◌, ◌-◌, arith, drop, length-drop, length-set}
+use Rattle.std.proofs.Common.{refl, sym, ◌∙◌, arith, drop, length-drop, length-set}
 use Rattle.std.proofs.Math.Seq.{paste-zero}
 use Rattle.run_buffer.specs.Rest.{none_kept, one-moved, all_moved}
 use Rattle.run_buffer.proofs.keep_rest.Goals as goal

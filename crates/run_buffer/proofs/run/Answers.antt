@@ -1,5 +1,5 @@
 -- `run`: the run over the bytes so far, then the run over those that are left.
-use Rattle.std.proofs.Common.{refl, sym, ◌∙◌, ap, Bool, ◌&&◌, ◌-◌, ◌+◌, ◌≤◌, arith, eqb, length}
+use Rattle.std.proofs.Common.{refl, sym, ◌∙◌, ap, Bool, ◌&&◌, ◌+◌, ◌≤◌, arith, eqb, length}
 use Rattle.protocol.specs.Numbers.{answer_size}
 use Rattle.records.proofs.Found.{Found, found, found_in, found_none}
 use Rattle.request_answer.specs.Call.{answerable}
@@ -36,8 +36,14 @@ room c =
 
 pub answer_one-done-requires : goal.answer_one-done-requires
 answer_one-done-requires c =
-    record { able_value = c.loop-text.invariant.8; len_in_bounds = ((found_in (record-found (goal.at.answer_one-done-requires c).In-Whole)).0, rw
-        c.loop-text.invariant.0.as_long (room (goal.at.answer_one-done-requires c).In-Whole)) }
+    record {
+      able_value = c.loop-text.invariant.8;
+      len_in_bounds = (
+        (found_in (record-found (goal.at.answer_one-done-requires c).In-Whole)).0,
+        rw
+            c.loop-text.invariant.0.as_long (room (goal.at.answer_one-done-requires c).In-Whole),
+      );
+    }
 
 pub loop-text-smaller : goal.loop-text-smaller
 loop-text-smaller c =

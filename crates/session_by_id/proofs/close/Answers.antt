@@ -28,17 +28,17 @@ returns-in-AtSlot c =
     let a = c.args in
     λ (t : ℕ) (x : List ℕ).
     of_row ((state_of c.args.control c.args.table.now c.args.names.now c.args.committed.now c.args.staged.now c.args.image.now c.args.hash.now)) t
-        close c.find_row-found.ensures c.in-At.is (c.close.ensures t a.image.now a.hash.now x)
+    close c.find_row-found.ensures c.in-At.is (c.close.ensures t a.image.now a.hash.now x)
 
 pub returns-in-AtFlash : goal.returns-in-AtFlash
 returns-in-AtFlash c =
     let a = c.args in
     λ (t : ℕ) (x : List ℕ).
     of_row ((state_of c.args.control c.args.table.now c.args.names.now c.args.committed.now c.args.staged.now c.args.image.now c.args.hash.now)) t
-        close c.find_row-found.ensures c.in-At.is (c.close-in-AtFlash.ensures t a.names.now a.committed.now a.staged.now x)
+    close c.find_row-found.ensures c.in-At.is (c.close-in-AtFlash.ensures t a.names.now a.committed.now a.staged.now x)
 
 pub returns-in-Nothing : goal.returns-in-Nothing
 returns-in-Nothing c =
     λ (t : ℕ) (x : List ℕ).
     refused-leaves x c.refused.ensures (of_none ((state_of c.args.control c.args.table.now c.args.names.now c.args.committed.now c.args.staged.now
-        c.args.image.now c.args.hash.now)) t close c.find_row-found.ensures c.in-Nothing.is)
+    c.args.image.now c.args.hash.now)) t close c.find_row-found.ensures c.in-Nothing.is)

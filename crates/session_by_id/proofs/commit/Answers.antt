@@ -28,18 +28,18 @@ returns-in-AtSlot c =
     let a = c.args in
     λ (n x : List ℕ).
     of_row ((state_of c.args.control c.args.table.now n c.args.committed.now c.args.staged.now c.args.image.now c.args.hash.now)) a.clock
-        (commit a.len a.rest) c.find_row-found.ensures c.in-At.is (c.commit.ensures n a.image.now a.hash.now x)
+    (commit a.len a.rest) c.find_row-found.ensures c.in-At.is (c.commit.ensures n a.image.now a.hash.now x)
 
 pub returns-in-AtFlash : goal.returns-in-AtFlash
 returns-in-AtFlash c =
     let a = c.args in
     λ (n x : List ℕ).
     of_row ((state_of c.args.control c.args.table.now n c.args.committed.now c.args.staged.now c.args.image.now c.args.hash.now)) a.clock
-        (commit a.len a.rest) c.find_row-found.ensures c.in-At.is (c.commit-in-AtFlash.ensures n a.committed.now a.staged.now x)
+    (commit a.len a.rest) c.find_row-found.ensures c.in-At.is (c.commit-in-AtFlash.ensures n a.committed.now a.staged.now x)
 
 pub returns-in-Nothing : goal.returns-in-Nothing
 returns-in-Nothing c =
     let a = c.args in
     λ (n x : List ℕ).
     refused-leaves x c.refused.ensures (of_none ((state_of c.args.control c.args.table.now n c.args.committed.now c.args.staged.now c.args.image.now
-        c.args.hash.now)) a.clock (commit a.len a.rest) c.find_row-found.ensures c.in-Nothing.is)
+    c.args.hash.now)) a.clock (commit a.len a.rest) c.find_row-found.ensures c.in-Nothing.is)

@@ -26,18 +26,18 @@ returns-in-AtSlot c =
     let a = c.args in
     λ (n m x : List ℕ).
     of_row ((state_of c.args.control c.args.table.now n m c.args.staged.now c.args.image.now c.args.hash.now)) a.clock (write a.offset a.bytes.now)
-        c.find_row-found.ensures c.in-At.is (c.write.ensures n m a.image.now a.hash.now x)
+    c.find_row-found.ensures c.in-At.is (c.write.ensures n m a.image.now a.hash.now x)
 
 pub returns-in-AtFlash : goal.returns-in-AtFlash
 returns-in-AtFlash c =
     let a = c.args in
     λ (n m x : List ℕ).
     of_row ((state_of c.args.control c.args.table.now n m c.args.staged.now c.args.image.now c.args.hash.now)) a.clock (write a.offset a.bytes.now)
-        c.find_row-found.ensures c.in-At.is (c.write-in-AtFlash.ensures n m a.staged.now x)
+    c.find_row-found.ensures c.in-At.is (c.write-in-AtFlash.ensures n m a.staged.now x)
 
 pub returns-in-Nothing : goal.returns-in-Nothing
 returns-in-Nothing c =
     let a = c.args in
     λ (n m x : List ℕ).
     refused-leaves x c.refused.ensures (of_none ((state_of c.args.control c.args.table.now n m c.args.staged.now c.args.image.now c.args.hash.now))
-        a.clock (write a.offset a.bytes.now) c.find_row-found.ensures c.in-Nothing.is)
+    a.clock (write a.offset a.bytes.now) c.find_row-found.ensures c.in-Nothing.is)

@@ -1,5 +1,5 @@
 -- `all_names_apart`: the loop carries the answer for the pairs of the slots passed.
-use Rattle.std.proofs.Common.{arith, ◌-◌}
+use Rattle.std.proofs.Common.{arith}
 use Rattle.laws.specs.All.{pairs_start, pairs-row, pairs_end}
 use Rattle.sound_slots.proofs.all_names_apart.Goals as goal
 

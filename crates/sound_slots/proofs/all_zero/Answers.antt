@@ -1,5 +1,5 @@
 -- `all_zero`: the loop carries the answer for the bytes passed.
-use Rattle.std.proofs.Common.{arith, refl, ◌-◌}
+use Rattle.std.proofs.Common.{arith, refl}
 use Rattle.laws.specs.All.{all_start, all-step, all_end}
 use Rattle.laws.specs.Bytes.{zeros}
 use Rattle.sound_slots.proofs.all_zero.Goals as goal

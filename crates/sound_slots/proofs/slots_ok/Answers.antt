@@ -1,5 +1,5 @@
 -- `slots_ok`: the loop carries the answer for the slots passed.
-use Rattle.std.proofs.Common.{arith, ◌-◌}
+use Rattle.std.proofs.Common.{arith}
 use Rattle.laws.specs.All.{all_start, all-step, all_end}
 use Rattle.sound_slots.proofs.slots_ok.Goals as goal
 

@@ -1,5 +1,5 @@
 -- `zero_region`: the loop carries the answer for the blocks passed.
-use Rattle.std.proofs.Common.{arith, ◌-◌}
+use Rattle.std.proofs.Common.{arith}
 use Rattle.protocol.specs.Numbers.{slot_size}
 use Rattle.sound_slots.proofs.Laws.{blocks_start, blocks_more, blocks_end}
 use Rattle.sound_slots.proofs.zero_region.Goals as goal

@@ -40,29 +40,29 @@ returns-then-not-base_right c =
 pub returns-then-not-tests : goal.returns-then-not-tests
 returns-then-not-tests c =
     reason-name ((c.args.file.now)) (no-fault (goal.at.returns-then-not-tests c).Else-fault-ne0) (base-fits (goal.at.returns-then-not-tests
-        c).Else-not-base_right) (flag-false c.test_all-tests.ensures.names-are c.if-not-tests.true)
+    c).Else-not-base_right) (flag-false c.test_all-tests.ensures.names-are c.if-not-tests.true)
 
 pub returns-then-not-all_different : goal.returns-then-not-all_different
 returns-then-not-all_different c =
     reason-repeated ((c.args.file.now)) (no-fault (goal.at.returns-then-not-all_different c).Else-fault-ne0)
-        (base-fits (goal.at.returns-then-not-all_different c).Else-not-base_right) (names-fit (goal.at.returns-then-not-all_different
-        c).Else-not-tests) (flag-false c.all_different.ensures (ap not c.if-not-all_different.true))
+    (base-fits (goal.at.returns-then-not-all_different c).Else-not-base_right) (names-fit (goal.at.returns-then-not-all_different
+    c).Else-not-tests) (flag-false c.all_different.ensures (ap not c.if-not-all_different.true))
 
 pub returns-then-not-tests-2 : goal.returns-then-not-tests-2
 returns-then-not-tests-2 c =
     reason-long ((c.args.file.now)) (no-fault (goal.at.returns-then-not-tests-2 c).Else-fault-ne0) (base-fits (goal.at.returns-then-not-tests-2
-        c).Else-not-base_right) (names-fit (goal.at.returns-then-not-tests-2 c).Else-not-tests) (all_apart (goal.at.returns-then-not-tests-2 c).Else-not-all_different)
+    c).Else-not-base_right) (names-fit (goal.at.returns-then-not-tests-2 c).Else-not-tests) (all_apart (goal.at.returns-then-not-tests-2 c).Else-not-all_different)
     (flag-false c.test_all-tests.ensures.sizes-are c.if-not-tests-2.true)
 
 pub returns-then-tests-gt-SLOTS : goal.returns-then-tests-gt-SLOTS
 returns-then-tests-gt-SLOTS c =
     reason-many ((c.args.file.now)) (no-fault (goal.at.returns-then-tests-gt-SLOTS c).Else-fault-ne0) (base-fits (goal.at.returns-then-tests-gt-SLOTS
-        c).Else-not-base_right) (names-fit (goal.at.returns-then-tests-gt-SLOTS c).Else-not-tests) (all_apart (goal.at.returns-then-tests-gt-SLOTS
-        c).Else-not-all_different) (sizes-fit (goal.at.returns-then-tests-gt-SLOTS c).Else-not-tests-2)
+    c).Else-not-base_right) (names-fit (goal.at.returns-then-tests-gt-SLOTS c).Else-not-tests) (all_apart (goal.at.returns-then-tests-gt-SLOTS
+    c).Else-not-all_different) (sizes-fit (goal.at.returns-then-tests-gt-SLOTS c).Else-not-tests-2)
     (omega (arith, c.test_all-tests.ensures.count-is))
 
 pub returns : goal.returns
 returns c =
     reason-none ((c.args.file.now)) (no-fault (goal.at.returns c).Else-fault-ne0) (base-fits (goal.at.returns c).Else-not-base_right)
-        (names-fit (goal.at.returns c).Else-not-tests) (all_apart (goal.at.returns c).Else-not-all_different) (sizes-fit (goal.at.returns c).Else-not-tests-2)
+    (names-fit (goal.at.returns c).Else-not-tests) (all_apart (goal.at.returns c).Else-not-all_different) (sizes-fit (goal.at.returns c).Else-not-tests-2)
     (omega (arith, c.test_all-tests.ensures.count-is))

@@ -1,5 +1,5 @@
 -- `store_fault`: the fault of the file is the fault of what is still to come.
-use Rattle.std.proofs.Common.{refl, sym, ◌∙◌, ◌-◌, arith}
+use Rattle.std.proofs.Common.{refl, sym, ◌∙◌, arith}
 use Rattle.store_check.proofs.Ways.{store-end, store_found, store-inner, store-blob, store_other}
 use Rattle.store_file.specs.Messages.{inside}
 use Rattle.store_file.specs.ScanLaws.{Here}

@@ -1,5 +1,5 @@
 -- `test_all`: what is found so far and what is still to come say the whole.
-use Rattle.std.proofs.Common.{sym, ◌∙◌, ◌-◌, arith}
+use Rattle.std.proofs.Common.{sym, ◌∙◌, arith}
 use Rattle.store_check.proofs.Ways.{testing-start, testing-end, testing-blob, testing-other}
 use Rattle.store_file.specs.ScanLaws.{Here, scans-end, scans-fault}
 use Rattle.wire.proofs.Steps.{here-ahead, here-span, here-within, here-less}
@@ -34,7 +34,7 @@ loop-at-smaller-then-number-eq-STORE_BLOB c = here-less (here (goal.at.loop-at-s
 pub loop-at-preserved-then-number-eq-STORE_BLOB : goal.loop-at-preserved-then-number-eq-STORE_BLOB
 loop-at-preserved-then-number-eq-STORE_BLOB c =
     testing-blob _ c.loop-at.at _ _ _ c.loop-at.invariant _ _ _ _ (here (goal.at.loop-at-preserved-then-number-eq-STORE_BLOB c).In-Whole)
-        c.test_blob-t.result.name c.test_blob-t.result.size c.if-number-eq-STORE_BLOB.true
+    c.test_blob-t.result.name c.test_blob-t.result.size c.if-number-eq-STORE_BLOB.true
     c.test_blob-t.ensures
 
 pub loop-at-smaller : goal.loop-at-smaller

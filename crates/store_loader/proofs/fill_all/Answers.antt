@@ -1,5 +1,5 @@
 -- `fill_all`: the slots filled so far and the blobs still to come make the same store.
-use Rattle.std.proofs.Common.{sym, ◌∙◌, ◌-◌, arith}
+use Rattle.std.proofs.Common.{sym, ◌∙◌, arith}
 use Rattle.store_file.specs.ScanLaws.{Here, scans-end, scans-fault}
 use Rattle.store_loader.proofs.Laws.{filled-start, filled-end, filled-other, filled-room, filled-fits, filled_more}
 use Rattle.wire.proofs.Steps.{here-less}
@@ -41,7 +41,7 @@ loop-at-smaller-then-number-eq-STORE_BLOB c = here-less (here (goal.at.loop-at-s
 pub loop-at-preserved-then-number-eq-STORE_BLOB : goal.loop-at-preserved-then-number-eq-STORE_BLOB
 loop-at-preserved-then-number-eq-STORE_BLOB c =
     filled_more _ _ _ _ _ _ _ _ _ c.loop-at.invariant _ _ _ _ (here (goal.at.loop-at-preserved-then-number-eq-STORE_BLOB c).In-Whole)
-        c.if-number-eq-STORE_BLOB.true _ _ c.fill_slot-kept.result c.fill_slot-kept.auto.names
+    c.if-number-eq-STORE_BLOB.true _ _ c.fill_slot-kept.result c.fill_slot-kept.auto.names
     c.fill_slot-kept.auto.committed c.fill_slot-kept.ensures
 
 pub loop-at-smaller : goal.loop-at-smaller

@@ -37,17 +37,17 @@ store_open-requires c = (shape (goal.at.store_open-requires c).Else-not-sound).t
 pub returns-then-store_open : goal.returns-then-store_open
 returns-then-store_open c =
     load-open c.args.file.now ((let a = c.args in state_of a.control a.table.now a.names.now a.committed.now a.staged.now a.image.now a.hash.now))
-        ((let the-fact : is_sound ((let a = c.args in state_of a.control a.table.now a.names.now a.committed.now a.staged.now a.image.now a.hash.now))
-        ≡ true = flag_true c.sound.ensures (ap not c.if-not-sound.false) in the-fact)) (sym (c.store_open.ensures ((let a = c.args in state_of
-        a.control a.table.now a.names.now a.committed.now a.staged.now a.image.now a.hash.now))) ∙ c.if-store_open.true)
+    ((let the-fact : is_sound ((let a = c.args in state_of a.control a.table.now a.names.now a.committed.now a.staged.now a.image.now a.hash.now))
+    ≡ true = flag_true c.sound.ensures (ap not c.if-not-sound.false) in the-fact)) (sym (c.store_open.ensures ((let a = c.args in state_of
+    a.control a.table.now a.names.now a.committed.now a.staged.now a.image.now a.hash.now))) ∙ c.if-store_open.true)
 
 pub returns-then-reason-ne0 : goal.returns-then-reason-ne0
 returns-then-reason-ne0 c =
     let judged = c.reason_against-reason in
     load-refused c.args.file.now ((let a = c.args in state_of a.control a.table.now a.names.now a.committed.now a.staged.now a.image.now a.hash.now))
-        ((let the-fact : is_sound ((let a = c.args in state_of a.control a.table.now a.names.now a.committed.now a.staged.now a.image.now a.hash.now))
-        ≡ true = flag_true c.sound.ensures (ap not c.if-not-sound.false) in the-fact)) (is-closed (goal.at.returns-then-reason-ne0 c).Else-store_open)
-        judged.result.0 judged.ensures c.if-reason-ne0.true
+    ((let the-fact : is_sound ((let a = c.args in state_of a.control a.table.now a.names.now a.committed.now a.staged.now a.image.now a.hash.now))
+    ≡ true = flag_true c.sound.ensures (ap not c.if-not-sound.false) in the-fact)) (is-closed (goal.at.returns-then-reason-ne0 c).Else-store_open)
+    judged.result.0 judged.ensures c.if-reason-ne0.true
 
 pub clear_store-cleared-requires : goal.clear_store-cleared-requires
 clear_store-cleared-requires c =
@@ -69,5 +69,5 @@ returns c =
     ap (λ (s : State). record { code = success; state = s })
     (c.fill_all-filled.ensures a.table.now _ a.image.now a.hash.now z ∙ ap (filling 0 (scans_from file 0)) e)
     ∙ load_stored file ((let a = c.args in state_of a.control a.table.now a.names.now a.committed.now a.staged.now a.image.now a.hash.now))
-        ((let the-fact : is_sound ((let a = c.args in state_of a.control a.table.now a.names.now a.committed.now a.staged.now a.image.now a.hash.now))
-        ≡ true = flag_true c.sound.ensures (ap not c.if-not-sound.false) in the-fact)) (is-closed (goal.at.returns c).Else-store_open) (no-reason (goal.at.returns c).Else-reason-ne0)
+    ((let the-fact : is_sound ((let a = c.args in state_of a.control a.table.now a.names.now a.committed.now a.staged.now a.image.now a.hash.now))
+    ≡ true = flag_true c.sound.ensures (ap not c.if-not-sound.false) in the-fact)) (is-closed (goal.at.returns c).Else-store_open) (no-reason (goal.at.returns c).Else-reason-ne0)

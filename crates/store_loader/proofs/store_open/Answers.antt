@@ -1,5 +1,5 @@
 -- `store_open`: the loop carries the answer for the rows passed.
-use Rattle.std.proofs.Common.{ap, ◌-◌, arith}
+use Rattle.std.proofs.Common.{ap, arith}
 use Rattle.std.specs.Prelude.{not}
 use Rattle.laws.specs.All.{all_start, all-step, all_end}
 use Rattle.store_file.specs.Loaded.{on_store, store_open}

@@ -1,5 +1,5 @@
 -- `all_different`: class after class, none of which has a name twice.
-use Rattle.std.proofs.Common.{ap, sym, true, ◌-◌, arith, below_more}
+use Rattle.std.proofs.Common.{ap, sym, true, arith, below_more}
 use Rattle.std.proofs.lemmas.Bool.{not-true, not-false}
 use Rattle.std.specs.Prelude.{not}
 use Rattle.store_file.specs.Scans.{scans_from}

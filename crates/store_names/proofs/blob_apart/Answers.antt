@@ -1,5 +1,5 @@
 -- `blob_apart`: the name is found, hashed, and asked of the filter; where the filter knows it, the file is gone through.
-use Rattle.std.proofs.Common.{ap, ◌≡◌, sym, ◌∙◌, subst, List, ℕ, ◌-◌, ◌%◌, arith, eqb, leb, ne_eqb}
+use Rattle.std.proofs.Common.{ap, ◌≡◌, sym, ◌∙◌, subst, List, ℕ, ◌%◌, arith, eqb, leb, ne_eqb}
 use Rattle.std.proofs.lemmas.Bool.{not-true}
 use Rattle.std.specs.Prelude.{not}
 use Rattle.name_filter.specs.Filter.{seen_in, Marked}
@@ -43,7 +43,7 @@ returns-then-not-known c =
     let a = c.args in
     judged-new (scans_from a.file.now 0) a.classes a.class ((let a = c.args in scan_between a.file.now a.start a.stop)) a.filter.now c.mark.new.filter
     (subst (Marked a.filter.now c.mark.new.filter) (hashed (goal.at.returns-then-not-known c).After-hash_name-hash) c.mark.ensures)
-        (ap (seen_in a.filter.now) (sym (hashed (goal.at.returns-then-not-known c).After-hash_name-hash)) ∙ sym c.seen-known.ensures ∙ not-true _ (ap not c.if-not-known.true))
+    (ap (seen_in a.filter.now) (sym (hashed (goal.at.returns-then-not-known c).After-hash_name-hash)) ∙ sym c.seen-known.ensures ∙ not-true _ (ap not c.if-not-known.true))
 
 pub stands_once-requires : goal.stands_once-requires
 stands_once-requires c = let f = c.last_field-name.ensures in (f.ordered, f.inside)
@@ -52,5 +52,5 @@ pub returns : goal.returns
 returns c =
     let a = c.args in
     judged-known (scans_from a.file.now 0) a.classes a.class ((let a = c.args in scan_between a.file.now a.start a.stop)) a.filter.now
-        c.mark.new.filter (subst (Marked a.filter.now c.mark.new.filter) (hashed (goal.at.returns c).After-hash_name-hash) c.mark.ensures) c.stands_once.result
+    c.mark.new.filter (subst (Marked a.filter.now c.mark.new.filter) (hashed (goal.at.returns c).After-hash_name-hash) c.mark.ensures) c.stands_once.result
     (c.stands_once.ensures ∙ ap (λ (n : List ℕ). leb (count_named n (scans_from a.file.now 0)) 1) c.last_field-name.ensures.value)

@@ -1,5 +1,5 @@
 -- `class_apart`: the blobs passed are apart in their class, and the filter knows each of them.
-use Rattle.std.proofs.Common.{ap, refl, sym, ◌∙◌, ◌-◌, arith}
+use Rattle.std.proofs.Common.{ap, refl, sym, ◌∙◌, arith}
 use Rattle.std.proofs.lemmas.Bool.{not-true, not-false}
 use Rattle.std.specs.Prelude.{not}
 use Rattle.store_file.specs.ScanLaws.{Here, scans-blob, scans-other, scans-end, scans-fault}
@@ -33,18 +33,17 @@ blob_apart-requires c =
 pub returns-then-not-blob_apart : goal.returns-then-not-blob_apart
 returns-then-not-blob_apart c =
     passed-no _ _ _ _ _ c.loop-at.invariant.1 _ _ (scans-blob (here (goal.at.returns-then-not-blob_apart c).In-Whole) c.if-number-eq-STORE_BLOB.true)
-        _ _ c.blob_apart.ensures (not-true _ (ap not c.if-not-blob_apart.true))
+    _ _ c.blob_apart.ensures (not-true _ (ap not c.if-not-blob_apart.true))
 
 pub loop-at-smaller-else-not-blob_apart : goal.loop-at-smaller-else-not-blob_apart
 loop-at-smaller-else-not-blob_apart c = here-less (here (goal.at.loop-at-smaller-else-not-blob_apart c).In-Whole)
 
 pub loop-at-preserved-else-not-blob_apart : goal.loop-at-preserved-else-not-blob_apart
-loop-at-preserved-else-not-blob_apart c =
-    (
-      c.blob_apart.ensures.long ∙ c.loop-at.invariant.0,
-      passed-more _ _ _ _ _ c.loop-at.invariant.1 _ _ (scans-blob (here (goal.at.loop-at-preserved-else-not-blob_apart c).In-Whole)
-          c.if-number-eq-STORE_BLOB.true) _ _ c.blob_apart.ensures (not-false _ (ap not c.if-not-blob_apart.false)),
-    )
+loop-at-preserved-else-not-blob_apart c = (
+  c.blob_apart.ensures.long ∙ c.loop-at.invariant.0,
+  passed-more _ _ _ _ _ c.loop-at.invariant.1 _ _ (scans-blob (here (goal.at.loop-at-preserved-else-not-blob_apart c).In-Whole)
+      c.if-number-eq-STORE_BLOB.true) _ _ c.blob_apart.ensures (not-false _ (ap not c.if-not-blob_apart.false)),
+)
 
 pub loop-at-smaller : goal.loop-at-smaller
 loop-at-smaller c = here-less (here (goal.at.loop-at-smaller c).In-Whole)

@@ -1,5 +1,5 @@
 -- `stands_once`: what is counted and what is still to come make the whole count.
-use Rattle.std.proofs.Common.{◌≡◌, sym, ◌∙◌, ap, cond, List, ℕ, ◌+◌, ◌-◌, ◌≤◌, zero-add, arith}
+use Rattle.std.proofs.Common.{◌≡◌, sym, ◌∙◌, ap, cond, List, ℕ, ◌+◌, ◌≤◌, zero-add, arith}
 use Rattle.laws.specs.Bytes.{same}
 use Rattle.store_file.specs.Messages.{Scan}
 use Rattle.store_file.specs.ScanLaws.{Here, scans-blob, scans-other, scans-end, scans-fault}

@@ -43,15 +43,41 @@ pub put_head-at-requires : goal.put_head-at-requires
 put_head-at-requires c = search (rules, name-size, slot-size, buffer-size)
 
 pub put_field-next-requires : goal.put_field-next-requires
-put_field-next-requires c = (omega arith, (omega (arith, name-size, slot-size), omega (arith, head-end (goal.at.put_field-next-requires
-    c).After-put_head-at, c.put_head-at.auto.dst, name-size, slot-size, buffer-size)))
+put_field-next-requires c = (
+  omega arith,
+  (
+    omega (arith, name-size, slot-size),
+    omega (
+      arith,
+      head-end (goal.at.put_field-next-requires
+          c).After-put_head-at,
+      c.put_head-at.auto.dst,
+      name-size,
+      slot-size,
+      buffer-size,
+    ),
+  ),
+)
 
 pub put_field-requires : goal.put_field-requires
-put_field-requires c =
-    (omega arith, (omega (arith, name-size, slot-size), omega (arith, head-end (goal.at.put_field-requires c).After-put_head-at,
-        c.put_head-at.auto.dst, name-size, slot-size, buffer-size, name-end (goal.at.put_field-requires c).After-put_field-next, c.put_field-next.auto.dst)))
+put_field-requires c = (
+  omega arith,
+  (
+    omega (arith, name-size, slot-size),
+    omega (
+      arith,
+      head-end (goal.at.put_field-requires c).After-put_head-at,
+      c.put_head-at.auto.dst,
+      name-size,
+      slot-size,
+      buffer-size,
+      name-end (goal.at.put_field-requires c).After-put_field-next,
+      c.put_field-next.auto.dst,
+    ),
+  ),
+)
 
 pub returns : goal.returns
 returns c =
     blob-put ((let a = c.args in record { name = a.name.now; bytes = a.scan.now })) _ (inner-is (goal.at.returns c).After-head_size-2)
-        c.put_head-at.ensures c.put_field-next.ensures c.put_field.ensures
+    c.put_head-at.ensures c.put_field-next.ensures c.put_field.ensures

@@ -22,18 +22,17 @@ returns-then-part-eq0 c =
       λ table staged image hash.
           call-laid (written (base_field, base)) b c.put_field-len.new.dst c.put_field-len.result _
           (part-base c.args.part ((let a = c.args in state_of a.control table a.names.now a.committed.now staged image hash)) c.if-part-eq0.true) n
-              c.put_field-len.ensures.1 (omega (arith, base-fits)),
+          c.put_field-len.ensures.1 (omega (arith, base-fits)),
       omega (arith, base-fits),
     )
 
 pub returns-then-control-i : goal.returns-then-control-i
-returns-then-control-i c =
-    (
-      λ table staged image hash.
-          sym (ap (λ (v : Saved). laid_out v c.args.buffer.now)
-          (part-past c.args.part ((let a = c.args in state_of a.control table a.names.now a.committed.now staged image hash)) c.if-part-eq0.false c.requires.marks-small c.if-control-i.true)),
-      omega arith,
-    )
+returns-then-control-i c = (
+  λ table staged image hash.
+      sym (ap (λ (v : Saved). laid_out v c.args.buffer.now)
+      (part-past c.args.part ((let a = c.args in state_of a.control table a.names.now a.committed.now staged image hash)) c.if-part-eq0.false c.requires.marks-small c.if-control-i.true)),
+  omega arith,
+)
 
 pub nth_set-k-requires : goal.nth_set-k-requires
 nth_set-k-requires c = (c.requires.marks-small, omega arith)

@@ -19,23 +19,23 @@ able c = (let the-fact : is_sound ((let a = c.args in state_of a.control a.table
 pub returns-then-not-able : goal.returns-then-not-able
 returns-then-not-able c =
     not-able c.args.records.now ((let a = c.args in state_of a.control a.table.now a.names.now a.committed.now a.staged.now a.image.now a.hash.now))
-        c.args.responses.now c.args.results.now ((let the-fact : is_sound ((let a = c.args in state_of a.control a.table.now a.names.now
-        a.committed.now a.staged.now a.image.now a.hash.now)) && eqb (length c.args.results.now) tray_most ≡ false = ap (λ (z : Bool). z && eqb
-        (length c.args.results.now) tray_most) (sym c.sound.ensures) ∙ (not-true _ (ap not c.if-not-able.true)) in the-fact))
+    c.args.responses.now c.args.results.now ((let the-fact : is_sound ((let a = c.args in state_of a.control a.table.now a.names.now
+    a.committed.now a.staged.now a.image.now a.hash.now)) && eqb (length c.args.results.now) tray_most ≡ false = ap (λ (z : Bool). z && eqb
+    (length c.args.results.now) tray_most) (sym c.sound.ensures) ∙ (not-true _ (ap not c.if-not-able.true)) in the-fact))
 
 pub returns-then-form-success : goal.returns-then-form-success
 returns-then-form-success c =
     not-formed c.args.records.now ((let a = c.args in state_of a.control a.table.now a.names.now a.committed.now a.staged.now a.image.now a.hash.now))
-        c.args.responses.now c.args.results.now (able (goal.at.returns-then-form-success c).Else-not-able) _ c.form_of-form.ensures c.if-form-success.true
+    c.args.responses.now c.args.results.now (able (goal.at.returns-then-form-success c).Else-not-able) _ c.form_of-form.ensures c.if-form-success.true
 
 pub answer_all-requires : goal.answer_all-requires
 answer_all-requires c =
     let both = and-true (is_sound ((let a = c.args in state_of a.control a.table.now a.names.now a.committed.now a.staged.now a.image.now
-        a.hash.now))) (eqb (length c.args.results.now) tray_most) (able (goal.at.answer_all-requires c).Else-not-able) in
+    a.hash.now))) (eqb (length c.args.results.now) tray_most) (able (goal.at.answer_all-requires c).Else-not-able) in
     record { sound = both.0; results_len = eqb-true (length c.args.results.now) tray_most both.1 }
 
 pub returns : goal.returns
 returns c =
     c.answer_all.ensures
     ∙ formed c.args.records.now ((let a = c.args in state_of a.control a.table.now a.names.now a.committed.now a.staged.now a.image.now a.hash.now))
-        c.args.responses.now c.args.results.now (able (goal.at.returns c).Else-not-able) _ c.form_of-form.ensures c.if-form-success.false
+    c.args.responses.now c.args.results.now (able (goal.at.returns c).Else-not-able) _ c.form_of-form.ensures c.if-form-success.false

@@ -33,7 +33,7 @@ over c =
     let at = c.loop-count.at in
     let count = c.loop-count.count in
     elim c.loop-count-test.branch [
-      else-loop-count-test w ↦ all_seen b at count w.loop-count-test.false
+      | else-loop-count-test w ↦ all_seen b at count w.loop-count-test.false
       | then-loop-count-test+in_default w ↦ first-none (tray_most - count) (drop at b)
           (found_none b at w.record_at.result w.record_at.ensures w.in_default.not-Whole)
     ]

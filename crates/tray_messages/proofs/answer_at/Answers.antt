@@ -9,12 +9,12 @@ use Rattle.tray_messages.proofs.answer_at.Goals as goal
 pub answer-requires : goal.answer-requires
 answer-requires c =
     can-answer c.args.responses.now c.args.at c.requires.in_bounds.1 ((let a = c.args in state_of a.control a.table.now a.names.now a.committed.now
-        a.staged.now a.image.now a.hash.now)) c.requires.sound
+    a.staged.now a.image.now a.hash.now)) c.requires.sound
 
 pub returns : goal.returns
 returns c =
     let a = c.args in
     answered-at a.responses.now a.at c.requires.in_bounds.1 a.clock (part a.start a.size a.records.now) ((let a = c.args in state_of a.control
-        a.table.now a.names.now a.committed.now a.staged.now a.image.now a.hash.now))
+    a.table.now a.names.now a.committed.now a.staged.now a.image.now a.hash.now))
     (c.answer.ensures ∙ ap (λ (m : List ℕ). served a.clock m ((let a = c.args in state_of a.control a.table.now a.names.now a.committed.now
-        a.staged.now a.image.now a.hash.now)) (lent a.responses.now a.at)) (lent-part a.start a.size a.records.now))
+    a.staged.now a.image.now a.hash.now)) (lent a.responses.now a.at)) (lent-part a.start a.size a.records.now))
