@@ -1,5 +1,5 @@
 #!/bin/sh
-# run.sh [ARCHIVE]: looking up a row by used rows beside a search through all of them (rows.c); with ARCHIVE, a libcapi.a of an earlier tree (rt staticlib capi there), also whole
+# run.sh [ARCHIVE]: looking up a row by used rows beside a search through all of them (rows.c); with ARCHIVE, a libcapi.a of an earlier tree (tools/archive.sh there), also whole
 # requests before and after (requests.c). docs/BENCHMARKS.md keeps the figures. CC names the C compiler (default cc). Needs the Rattle kit; on a fresh clone it proves what it
 # measures first. The wrapper with the old search (linear.txt) is no part of the library.
 set -eu
