@@ -2,11 +2,10 @@
 use Rattle.std.proofs.Math.Path.{◌≡◌}
 use Rattle.std.proofs.Common.{arith}
 use Rattle.std.proofs.Math.Logic.{◌≢◌}
-use Rattle.std.specs.Prelude.{Bool, ℕ, ◌%◌}
+use Rattle.std.specs.Prelude.{Bool, ◌%◌}
 use Rattle.protocol.specs.Numbers.{running}
 use Rattle.protocol.specs.declared.FlashKind.{FlashKind}
 use Rattle.protocol.specs.declared.FlashKind.TheVariants.{Image, Hash, Verify, Update, Cleanup}
-use Rattle.state.specs.declared.Phase.TheVariants.{Verified}
 use Rattle.state.specs.State.{Row, FlashBody}
 use Rattle.state.specs.Words.{status_of}
 use Rattle.state.specs.Facts.{PhaseOk}

@@ -50,7 +50,7 @@ no_zero n f i l z = go (dec_lt i 6)
     go (no h) =
         let b = base-length in
         let a : alnum (get_or (drop (length base) n) (i - length base) 0) ≡ true = all-at (λ (j : ℕ). alnum (get_or (drop (length base) n) j 0))
-            (length n - length base) f.alnums (i - length base) (omega arith) in
+        (length n - length base) f.alnums (i - length base) (omega arith) in
         let e : get_or (drop (length base) n) (i - length base) 0 ≡ get_or n i 0 = get_or-drop (length base) n (i - length base) 0 ∙ ap (λ (j : ℕ). get_or n j 0) (omega arith) in
         true≢false (sym a ∙ ap alnum (e ∙ z) ∙ alnum-not-zero)
 

@@ -6,7 +6,7 @@ use Rattle.std.proofs.Math.Bool.{true, false}
 use mathlib.Core.List.{List, [], ◌∷◌}
 use Rattle.std.proofs.Math.ListN.{length}
 use Rattle.std.proofs.lemmas.List.Edits.{sets}
-use Rattle.laws.specs.Ranges.{part, sets-part, part-sets}
+use Rattle.laws.specs.Ranges.{sets-part, part-sets}
 use Rattle.protocol.specs.Numbers.{row_words, slot_size, image_size, hash_size, untried, running, succeeded, failed}
 use Rattle.protocol.specs.Names.{kind_of}
 use Rattle.protocol.specs.Frame.{done}

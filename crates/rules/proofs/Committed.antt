@@ -97,7 +97,7 @@ module _ (n : List ℕ) (t : ℕ) (r : Row) (b : Slot) where
   unfolding write_store
   leaves-write true ws offset =
       placed-has slot_size b.staged_len offset (length ws) r b (stored t offset ws r b) Leaves (λ (h : offset ≤ b.staged_len) (l : offset + length ws
-          ≤ slot_size). leaves-stored ws offset) (λ (code : ℕ). as_it_was)
+      ≤ slot_size). leaves-stored ws offset) (λ (code : ℕ). as_it_was)
   leaves-write false ws offset = as_it_was
 
   leaves-writing : (y : Bool) → has_name n b ≡ false → Leaves (commit_writing y t r b)

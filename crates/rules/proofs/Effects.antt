@@ -1,5 +1,5 @@
 -- What each command leaves, spelled out part by part: what a rule says of a command is stated here without the definition that carries the rule, so that a slip in one of the two is refused. Assumes nothing.
-use Rattle.std.specs.Prelude.{◌≡◌, Bool, true, ℕ, ◌+◌, ◌≤◌, ◌<◌, max, eqb, length, get_or, replicate, ◌≢◌}
+use Rattle.std.specs.Prelude.{◌≡◌, Bool, true, ℕ, ◌+◌, ◌≤◌, ◌<◌, max, length, get_or, replicate, ◌≢◌}
 use Rattle.std.proofs.Math.Path.{refl, ap}
 use Rattle.std.proofs.Common.{sym, ◌∙◌, subst, arith, get_or-set_same, get_or-set_other, eq-eqb, ne_eqb}
 use mathlib.Core.List.{List, [], ◌∷◌}
@@ -60,8 +60,14 @@ module _ (t offset : ℕ) (r : Row) (b : Slot) (w : writes r ≡ true) (at : off
 
   stored-wrote : (ws : List ℕ) → offset + length ws ≤ slot_size → Wrote offset ws b.staged_bytes (stored t offset ws r b).1.1.staged_bytes b.staged_len (stored t offset ws r b).1.1.staged_len
   unfolding stored
-  stored-wrote [] fits = record { inside = λ (j : ℕ) (h : j < 0). absurd (omega arith); below = λ _ _. refl; above = λ _ _. refl; grows =
-      λ (h : b.staged_len ≤ offset + 0). omega arith; stays = λ _. refl }
+  stored-wrote [] fits = record {
+    inside = λ (j : ℕ) (h : j < 0). absurd (omega arith);
+    below = λ _ _. refl;
+    above = λ _ _. refl;
+    grows =
+        λ (h : b.staged_len ≤ offset + 0). omega arith;
+    stays = λ _. refl;
+  }
   stored-wrote (x ∷ ws) fits = wrote offset (x ∷ ws) b.staged_bytes b.staged_len (omega arith)
 
   stored-done : (ws : List ℕ) → (stored t offset ws r b).0 ≡ done
@@ -72,7 +78,7 @@ module _ (t offset : ℕ) (r : Row) (b : Slot) (w : writes r ≡ true) (at : off
   -- A WRITE STORES ITS BYTES AND NOTHING ELSE (rules 11.3 and 11.4)
   pub write-stores : (ws : List ℕ) → offset + length ws ≤ slot_size
       → ((on_store t (write offset ws) r b).0 ≡ done) × Wrote offset ws b.staged_bytes (on_store t (write offset ws) r b).1.1.staged_bytes
-          b.staged_len (on_store t (write offset ws) r b).1.1.staged_len
+      b.staged_len (on_store t (write offset ws) r b).1.1.staged_len
   write-stores ws fits = (
     ap (λ (o : Out Slot). o.0) (accepted ws fits) ∙ stored-done ws,
     subst (λ (o : Out Slot). Wrote offset ws b.staged_bytes o.1.1.staged_bytes b.staged_len o.1.1.staged_len) (sym (accepted ws fits)) (stored-wrote ws fits),
@@ -87,7 +93,7 @@ module _ (t offset : ℕ) (r : Row) (b : Slot) (w : writes r ≡ true) (at : off
 module _ (t offset : ℕ) (ws : List ℕ) (r : Row) (b : FlashBody) where
   pub image-stores : offset ≤ b.image_len → offset + length ws ≤ image_size → length b.image ≡ image_size
       → ((on_flash Image t (write offset ws) r b).0 ≡ done) × Wrote offset ws b.image (on_flash Image t (write offset ws) r b).1.1.image b.image_len
-          (on_flash Image t (write offset ws) r b).1.1.image_len
+      (on_flash Image t (write offset ws) r b).1.1.image_len
   unfolding on_flash write_flash
   image-stores at fits long = rw (placed-fits image_size b.image_len offset (length ws) r b _ at fits) (refl, wrote offset ws b.image b.image_len (omega arith))
 
@@ -109,8 +115,22 @@ cleanup-empties t r b = refl
 -- ---- Close of a store session that writes
 -- nothing is staged any more (rule 13.4)
 pub close-unstages : (t : ℕ) (r : Row) (b : Slot) → writes r ≡ true → b.mark ≡ 1 → on_store t close r b
-    ≡ (done, (free_row, record { name = b.name; committed_bytes = b.committed_bytes; staged_bytes = replicate slot_size 0; held = b.held; mark =
-        b.mark; committed_len = b.committed_len; staged_len = 0 }))
+    ≡ (
+      done,
+      (
+        free_row,
+        record {
+          name = b.name;
+          committed_bytes = b.committed_bytes;
+          staged_bytes = replicate slot_size 0;
+          held = b.held;
+          mark =
+              b.mark;
+          committed_len = b.committed_len;
+          staged_len = 0;
+        },
+      ),
+    )
 unfolding on_store closed_slot closed_writing
 close-unstages t r b w m = ap (λ (y : Bool). (done, (free_row, closed_slot y b))) w ∙ ap (λ (y : Bool). (done, (free_row, closed_writing y b))) (eq-eqb b.mark 1 m)
 

@@ -116,7 +116,7 @@ pub reply-is : (t : ℕ) (m : List ℕ) (s : State) (q : Request) (x : Reply) �
     → ((respond t m s).code ≡ (framed (number_of q) x).0) × ((respond t m s).response ≡ (framed (number_of q) x).1)
 reply-is t m s q x h e f =
     let g : framed (number_of (decoded m)) (answered (decoded m) t m s).0 ≡ framed (number_of q) x = ap (λ (r : Request). framed (number_of r)
-        (answered r t m s).0) e ∙ ap (framed (number_of q)) f in (
+    (answered r t m s).0) e ∙ ap (framed (number_of q)) f in (
       ap (λ (o : Effect). o.code) (respond-is t m s h) ∙ ap (λ (y : Answer). y.0) g,
       ap (λ (o : Effect). o.response) (respond-is t m s h) ∙ ap (λ (y : Answer). y.1) g,
     )

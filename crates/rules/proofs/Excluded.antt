@@ -100,7 +100,7 @@ size-sent state size h = four_bytes size h
 -- SESSIONSTAT SENDS THE LENGTH THAT THE SESSION SEES (rule 21.4)
 pub stat-size : (t : ℕ) (r : Row) (b : Slot) → seen_length (writes r) b < thirty_two_bits
     → ((on_store t stat r b).0 ≡ reply (stat_fields (state_bits (word_of r)) (seen_length (writes r) b))) × (little 4 2 (stat_fields
-        (state_bits (word_of r)) (seen_length (writes r) b)) ≡ seen_length (writes r) b)
+    (state_bits (word_of r)) (seen_length (writes r) b)) ≡ seen_length (writes r) b)
 unfolding on_store
 stat-size t r b h = (refl, size-sent (state_bits (word_of r)) (seen_length (writes r) b) h)
 
@@ -215,7 +215,7 @@ module _ (t : ℕ) (r : Row) (four : length r.words ≡ row_words) where
     unfolding write_store
     write-lifts true ws offset =
         placed-has slot_size b.staged_len offset (length ws) r b (stored t offset ws r b) (Lifted t r) (λ (h : offset ≤ b.staged_len)
-            (l : offset + length ws ≤ slot_size). stored-lifts ws offset) (no-stamp b)
+        (l : offset + length ws ≤ slot_size). stored-lifts ws offset) (no-stamp b)
     write-lifts false ws offset = no-stamp b not_supported
 
     writing-lifts : (y : Bool) → Lifted t r (commit_writing y t r b)

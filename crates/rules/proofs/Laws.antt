@@ -94,13 +94,13 @@ by-own-part i t c s = refl
 pub other-rows : (i q t : ℕ) (c : Command) (s : State) → i ≢ q → (in_row q).get (on_row i t c s).1 ≡ (in_row q).get s
 other-rows i q t c s n =
     ap (λ (y : State). (in_row q).get y) (by-own-part i t c s) ∙ cell-row-other i q (place_of (blob i s)) (on_part (place_of (blob i s)) t c
-        ((in_row i).get s) ((in_body (place_of (blob i s))).get s)).1 s n
+    ((in_row i).get s) ((in_body (place_of (blob i s))).get s)).1 s n
 
 -- and the length of the table
 pub table-after : (i t : ℕ) (c : Command) (s : State) → length (on_row i t c s).1.sessions.table ≡ length s.sessions.table
 table-after i t c s =
     ap (λ (y : State). length y.sessions.table) (by-own-part i t c s) ∙ table_kept i (place_of (blob i s)) (on_part (place_of (blob i s)) t c
-        ((in_row i).get s) ((in_body (place_of (blob i s))).get s)).1 s
+    ((in_row i).get s) ((in_body (place_of (blob i s))).get s)).1 s
 
 -- ---- a row's job status
 -- the stamp is not part of it

@@ -32,9 +32,9 @@ module _ (P : Reply × State → Type 0) (s : State) (refuses : (code : ℕ) →
   -- A STORE NAME: a held one gets a session, or a new one does
   pub open-store-has : (n : List ℕ) (flags t : ℕ)
       → ((r k : ℕ) → store_flags flags ≡ true → slot_named n s ≡ some k → row_found (OnBlob k) s ≡ none → free_row_in s ≡ some r → P
-          (opened (AtSlot k) r k flags 1 t (held_slot flags (slot_at k s)) s))
+      (opened (AtSlot k) r k flags 1 t (held_slot flags (slot_at k s)) s))
       → ((r k : ℕ) → store_flags flags ≡ true → slot_named n s ≡ none → writes_with flags ≡ true → free_row_in s ≡ some r → free_slot_in s ≡ some k →
-          P (opened (AtSlot k) r k flags 0 t (new_slot n) s))
+      P (opened (AtSlot k) r k flags 0 t (new_slot n) s))
       → P (open_store n flags t s)
   unfolding open_store
   open-store-has n flags t held new =

@@ -191,8 +191,11 @@ names_apart = same_false (padded name_size (scan_name letter_b)) (padded name_si
 pub two_good : (n : ℕ) → n ≤ slot_size → Sound (two_writers n)
 unfolding two_writers
 two_good n h =
-    second-good n h (AtSlot 1) (writing_row 1) (written_slot (scan_name letter_b) n) refl refl refl (omega arith) (omega arith, written-fits
-        (scan_name letter_b) n) (written-session 1 (scan_name letter_b) n (omega arith) h name-b) (omega arith)
+    second-good n h (AtSlot 1) (writing_row 1) (written_slot (scan_name letter_b) n) refl refl refl (omega arith) (
+      omega arith,
+      written-fits
+          (scan_name letter_b) n,
+    ) (written-session 1 (scan_name letter_b) n (omega arith) h name-b) (omega arith)
     (λ (l : ℕ) (low : l < slot_count) (m : 1 ≢ l) (u : (slot_at l (writer (scan_name letter_a) n)).held ≡ 1). fresh-name l u (ℕ_discrete l 0))
   where
     fresh-name : (l : ℕ) → (slot_at l (writer (scan_name letter_a) n)).held ≡ 1 → Dec (l ≡ 0) → padded name_size (scan_name letter_b) ≢ (slot_at l (writer (scan_name letter_a) n)).name
@@ -229,8 +232,10 @@ verify-session = record {
 -- the facts of soundness hold
 pub verify-good : (n : ℕ) → n ≤ slot_size → Sound (writer_and_verify n)
 unfolding writer_and_verify
-verify-good n h = second-good n h AtFlash (verify_row running 100) new_image refl refl refl tt (length-replicate {A = ℕ} image_size 0,
-    length-replicate {A = ℕ} hash_size 0) verify-session (omega arith) tt
+verify-good n h = second-good n h AtFlash (verify_row running 100) new_image refl refl refl tt (
+  length-replicate {A = ℕ} image_size 0,
+  length-replicate {A = ℕ} hash_size 0,
+) verify-session (omega arith) tt
 
 -- the two rows and the first slot
 pub two-first : (n : ℕ) → (in_row 0).get (two_writers n) ≡ writing_row 0

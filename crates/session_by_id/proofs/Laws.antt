@@ -1,14 +1,12 @@
 -- From the row that was found to the session that was asked for. Assumes nothing.
 use mathlib.Core.Path.{◌≡◌, refl, sym, ◌∙◌, ap}
-use mathlib.Core.Bool.{true}
 use mathlib.Core.List.{List}
-use mathlib.Core.Option.{Option, none}
+use mathlib.Core.Option.{Option}
 use Prim.Native.Nat.{ℕ}
 use lib.Dec.{leb}
 use borrow.Author.Tests.{leb-true}
 use lib.ListN.{get_or}
 use Rattle.laws.specs.Ranges.{block}
-use Rattle.laws.specs.Find.{found}
 use Rattle.protocol.specs.Numbers.{row_words, slot_count, not_supported}
 use Rattle.protocol.specs.Frame.{Reply, refused}
 use Rattle.state.specs.declared.mask.Found.{Found}

@@ -9,7 +9,7 @@ use lib.Dec.{eqb, leb}
 use borrow.Author.Tests.{leb-true, eqb-true, ne_eqb}
 use lib.ListN.{length, replicate}
 use Rattle.laws.specs.All.{and-true}
-use Rattle.laws.specs.Ranges.{part, block, block-fits, block-steady, part-replicate, length_part}
+use Rattle.laws.specs.Ranges.{block, block-fits, block-steady, part-replicate, length_part}
 use Rattle.protocol.specs.Numbers.{success, not_sound, session_open, slot_count, slot_size, name_size}
 use Rattle.protocol.specs.Names.{store_name}
 use Rattle.protocol.proofs.Naming.{name-fits}

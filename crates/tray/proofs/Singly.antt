@@ -1,5 +1,5 @@
 -- A tray is its messages sent one by one: the results, the responses and the state of those that it does are what single calls give, from the same state. Assumes nothing.
-use Rattle.std.specs.Prelude.{◌≡◌, refl, Bool, true, false, cond, ℕ, zero, suc, ◌+◌, ◌*◌, ◌-◌, ◌≤◌, ◌<◌, leb, length, get_or, take, drop}
+use Rattle.std.specs.Prelude.{◌≡◌, refl, Bool, true, false, cond, ℕ, zero, suc, ◌+◌, ◌*◌, ◌-◌, ◌≤◌, ◌<◌, leb, length, get_or, take}
 use Rattle.std.proofs.Common.{sym, ◌∙◌, ap, arith, leb-true, leb-false, length-append}
 use mathlib.Core.List.{List, [], ◌∷◌, ◌++◌, map, flat_map}
 use Rattle.std.proofs.Math.Decide.{dec_lt}

@@ -1,5 +1,5 @@
 -- Whole records at the front of some bytes: how many and how long they are, what stands behind them, and where they may be cut. Assumes nothing.
-use Rattle.std.specs.Prelude.{◌≡◌, refl, Bool, true, false, cond, List, [], ◌∷◌, ◌++◌, ℕ, zero, suc, ◌+◌, ◌-◌, ◌≤◌, ◌<◌, length, get_or, take, drop}
+use Rattle.std.specs.Prelude.{◌≡◌, refl, Bool, true, false, cond, List, [], ◌∷◌, ◌++◌, ℕ, zero, suc, ◌+◌, ◌-◌, ◌≤◌, ◌<◌, length, take, drop}
 use Rattle.std.proofs.Common.{sym, ◌∙◌, ap, arith, leb-true, le-leb, length-drop, take-append-drop, drop-drop, take-add, get_or-take, length-take-le}
 use Rattle.std.proofs.Math.Seq.{drop-length, take-nil}
 use Rattle.records.specs.Records.{clock_size, prefix_size, clock_of, message_of, length_of, size_of, is_whole, Timed, requests_in, bytes_in}

@@ -1,6 +1,5 @@
 -- `put_control`: four runs of words, one behind the other, fill the block.
-use Rattle.std.proofs.Common.{◌≡◌, sym, ◌∙◌, ℕ, arith, length}
-use Rattle.std.proofs.lemmas.List.{length-map}
+use Rattle.std.proofs.Common.{◌≡◌, arith, length}
 use Rattle.capi_control.proofs.Laws.{put-control}
 use Rattle.protocol.specs.Numbers.{slot_count}
 use Rattle.capi_control.proofs.put_control.Goals as goal

@@ -1,5 +1,5 @@
 -- `nth_set`: the set bits passed so far are counted, and none of them is number i.
-use Rattle.std.proofs.Common.{◌≡◌, sym, ◌∙◌, add-one, arith, ⊎_elim, ◌-◌, ◌+◌, eqb-true}
+use Rattle.std.proofs.Common.{◌≡◌, sym, ◌∙◌, add-one, arith, ◌-◌, ◌+◌, eqb-true}
 use Rattle.std.proofs.lemmas.Bool.{eqb-false}
 use Rattle.std.specs.Int.Count.{ones_in}
 use Rattle.laws.specs.Bits.{bit, bit-lt}

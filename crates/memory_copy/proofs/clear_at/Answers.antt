@@ -1,5 +1,5 @@
 -- `clear_at`: the buffer so far is the paste of zeros.
-use Rattle.std.proofs.Common.{ℕ, ◌-◌, arith, replicate}
+use Rattle.std.proofs.Common.{ℕ, arith, replicate}
 use Rattle.std.proofs.lemmas.List.{get_or-replicate, length-replicate}
 use Rattle.memory_copy.specs.Laws.{stored-none, stored_more, stored-all}
 use Rattle.memory_copy.proofs.clear_at.Goals as goal

@@ -1,5 +1,5 @@
 -- `copy_at`: the buffer so far is the paste of what was passed.
-use Rattle.std.proofs.Common.{refl, ◌-◌, arith, get_or}
+use Rattle.std.proofs.Common.{refl, arith, get_or}
 use Rattle.memory_copy.specs.Laws.{stored-none, stored_more, stored-all}
 use Rattle.memory_copy.proofs.copy_at.Goals as goal
 

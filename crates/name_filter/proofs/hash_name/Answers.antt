@@ -1,5 +1,5 @@
 -- `hash_name`: the hash so far, carried on over the bytes that are left, is the name's.
-use Rattle.std.proofs.Common.{refl, sym, ◌∙◌, ap, ℕ, ◌+◌, ◌-◌, arith, drop}
+use Rattle.std.proofs.Common.{refl, sym, ◌∙◌, ap, ℕ, ◌+◌, arith, drop}
 use Rattle.name_filter.proofs.Laws.{hash-more, hash-end}
 use Rattle.name_filter.specs.Hash.{hash_from}
 use Rattle.name_filter.proofs.hash_name.Goals as goal

@@ -1,5 +1,5 @@
 -- `mark`: the places passed are set, and whatever was set stays so.
-use Rattle.std.proofs.Common.{◌-◌, arith}
+use Rattle.std.proofs.Common.{arith}
 use Rattle.name_filter.proofs.Laws.{marked-none, marked_more, marked_all}
 use Rattle.name_filter.proofs.mark.Goals as goal
 

@@ -1,5 +1,5 @@
 -- `seen`: the answer so far is carried along, over the places passed.
-use Rattle.std.proofs.Common.{◌∙◌, ap, ◌-◌, arith}
+use Rattle.std.proofs.Common.{◌∙◌, ap, arith}
 use Rattle.laws.specs.All.{all_start, all-step, all_end}
 use Rattle.name_filter.specs.Filter.{bit_at}
 use Rattle.name_filter.proofs.seen.Goals as goal

@@ -1,5 +1,5 @@
 -- `flash_at`: the name sought is number `left` of those that are left.
-use Rattle.std.proofs.Common.{◌≡◌, sym, ◌∙◌, ap, ⊎_elim, ℕ, ◌+◌, ◌-◌, arith}
+use Rattle.std.proofs.Common.{◌≡◌, sym, ◌∙◌, ap, ℕ, ◌+◌, ◌-◌, arith}
 use Rattle.name_list.specs.Laws.{at_first, at-shown, at-hidden, outside}
 use Rattle.name_list.specs.Listed.{behind, flash_from}
 use Rattle.name_list.specs.declared.Listed.TheVariants.{Flash}

@@ -1,5 +1,5 @@
 -- `flash_count`: those counted, and those that are left, are all.
-use Rattle.std.proofs.Common.{◌≡◌, sym, ◌∙◌, ap, ⊎_elim, ◌-◌, arith}
+use Rattle.std.proofs.Common.{◌≡◌, sym, ◌∙◌, ap, ◌-◌, arith}
 use Rattle.name_list.specs.Laws.{few-listed, start-count, count-shown, count-hidden, none-behind}
 use Rattle.protocol.specs.Names.{kind_of}
 use Rattle.protocol.specs.declared.FlashKind.{FlashKind}

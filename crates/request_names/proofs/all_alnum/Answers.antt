@@ -1,5 +1,5 @@
 -- `request_names::all_alnum` meets its contract: the answer so far is carried along. Assumes nothing.
-use Rattle.std.proofs.Common.{◌-◌, arith}
+use Rattle.std.proofs.Common.{arith}
 use Rattle.laws.specs.All.{all_start, all-step, all_end}
 use Rattle.request_names.proofs.all_alnum.Goals as goal
 

@@ -1,5 +1,5 @@
 -- `request_names::first_zero` meets its contract: no zero was passed. Assumes nothing.
-use Rattle.std.proofs.Common.{◌-◌, arith}
+use Rattle.std.proofs.Common.{arith}
 use Rattle.request_names.proofs.Names.{first-start, first_step, first-stop, first-end}
 use Rattle.request_names.proofs.first_zero.Goals as goal
 

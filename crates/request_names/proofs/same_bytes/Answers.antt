@@ -1,5 +1,5 @@
 -- `request_names::same_bytes` meets its contract: lengths first, then the answer so far is carried along. Assumes nothing.
-use Rattle.std.proofs.Common.{refl, ◌-◌, arith}
+use Rattle.std.proofs.Common.{refl, arith}
 use Rattle.laws.specs.All.{all_start, all-step, all_end}
 use Rattle.request_names.proofs.Names.{same-lengths, same-all}
 use Rattle.request_names.proofs.same_bytes.Goals as goal

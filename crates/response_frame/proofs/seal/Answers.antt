@@ -1,5 +1,5 @@
 -- `response_frame::seal` meets its contract: header and CRC go in front of the fields that stand in their place. Assumes nothing.
-use Rattle.std.proofs.Common.{◌∙◌, ap, ◌-◌}
+use Rattle.std.proofs.Common.{◌∙◌, ap}
 use Rattle.crc.specs.Crc.{crc}
 use Rattle.laws.specs.Bytes.{bytes_of}
 use Rattle.laws.specs.Ranges.{lent-part}

@@ -1,15 +1,11 @@
 -- `run`: the run over the bytes so far, then the run over those that are left.
-use Rattle.std.proofs.Common.{◌≡◌, refl, sym, ◌∙◌, ap, subst, Bool, ◌&&◌, ⊎_elim, ℕ, ◌-◌, ◌+◌, ◌≤◌, arith, eqb, length}
+use Rattle.std.proofs.Common.{refl, sym, ◌∙◌, ap, Bool, ◌&&◌, ◌-◌, ◌+◌, ◌≤◌, arith, eqb, length}
 use Rattle.protocol.specs.Numbers.{answer_size}
 use Rattle.records.proofs.Found.{Found, found, found_in, found_none}
-use Rattle.records.specs.contracts.Record.{enum}
-use Rattle.records.specs.declared.Record.{Record}
-use Rattle.records.specs.declared.Record.TheVariants.{Whole}
 use Rattle.request_answer.specs.Call.{answerable}
 use Rattle.run_buffer.specs.Progress.{begins, ends-full, ends-none, goes_to, able-kept}
 use Rattle.run_buffer.specs.Step.{Stepped}
 use Rattle.run_lines.specs.Lines.{line_most}
-use denote.Enum.Declared.{tag_of, declared}
 use Rattle.run_buffer.proofs.run.Goals as goal
 use Rattle.run_buffer.proofs.run.Goals.{In-Whole}
 

@@ -1,5 +1,5 @@
 -- `put_hexes`: the digits so far are those of the bytes passed.
-use Rattle.std.proofs.Common.{◌≡◌, refl, ◌∙◌, ap, ℕ, ◌-◌, arith, take, length-take-le}
+use Rattle.std.proofs.Common.{◌≡◌, refl, ◌∙◌, ap, ℕ, arith, take, length-take-le}
 use Rattle.std.proofs.lemmas.List.Edits.{sets}
 use Rattle.run_lines.proofs.Laws.{hexes-stored}
 use Rattle.run_lines.specs.Lines.{hexes}

@@ -1,6 +1,4 @@
 -- `lent_right`: from the lengths tested, and those of the two arrays, which their types give.
-use Rattle.std.proofs.Common.{ℕ, sym, ◌∙◌}
-use Rattle.std.proofs.lemmas.List.{length-map}
 use Rattle.sound.proofs.Laws.{lent_is}
 use Rattle.state.specs.State.{state_of}
 use Rattle.sound.proofs.lent_right.Goals as goal

@@ -1,5 +1,5 @@
 -- `all_apart`: the loop carries the answer for the pairs of the rows passed.
-use Rattle.std.proofs.Common.{arith, ◌-◌}
+use Rattle.std.proofs.Common.{arith}
 use Rattle.laws.specs.All.{pairs_start, pairs-row, pairs_end}
 use Rattle.sound_rows.proofs.all_apart.Goals as goal
 

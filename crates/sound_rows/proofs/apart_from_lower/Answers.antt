@@ -1,5 +1,5 @@
 -- `apart_from_lower`: the loop carries the answer for the rows passed.
-use Rattle.std.proofs.Common.{ap, arith, ◌-◌}
+use Rattle.std.proofs.Common.{ap, arith}
 use Rattle.std.specs.Prelude.{not}
 use Rattle.laws.specs.All.{all_start, all-step, all_end, flag-false, clash-none}
 use Rattle.state.specs.Soundness.{rows_apart}

@@ -1,8 +1,8 @@
 -- `has_writer`: the loop carries that no row passed writes the slot.
-use Rattle.std.proofs.Common.{ap, arith, ◌-◌}
+use Rattle.std.proofs.Common.{ap, arith}
 use Rattle.std.specs.Prelude.{not}
 use Rattle.laws.specs.All.{all_start, all-step, all_end}
-use Rattle.state.specs.Soundness.{writes_slot, has_writer}
+use Rattle.state.specs.Soundness.{has_writer}
 use Rattle.sound_rows.proofs.has_writer.Goals as goal
 
 pub loop-r-init : goal.loop-r-init

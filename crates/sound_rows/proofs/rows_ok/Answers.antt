@@ -1,5 +1,5 @@
 -- `rows_ok`: the loop carries the answer for the rows passed.
-use Rattle.std.proofs.Common.{arith, ◌-◌}
+use Rattle.std.proofs.Common.{arith}
 use Rattle.laws.specs.All.{all_start, all-step, all_end}
 use Rattle.sound_rows.proofs.rows_ok.Goals as goal
 

@@ -1,14 +1,10 @@
 -- `form_of`: the walk over the records, and its three ends.
-use Rattle.std.proofs.Common.{◌≡◌, sym, ◌∙◌, subst, ⊎_elim, [], ℕ, ◌-◌, arith, drop}
+use Rattle.std.proofs.Common.{◌≡◌, sym, ◌∙◌, [], ◌-◌, arith, drop}
 use Rattle.records.proofs.Found.{Found, found, found_none}
 use Rattle.records.proofs.Requests.{first-none}
 use Rattle.records.specs.Records.{requests_in}
-use Rattle.records.specs.contracts.Record.{enum}
-use Rattle.records.specs.declared.Record.{Record}
-use Rattle.records.specs.declared.Record.TheVariants.{Whole}
 use Rattle.tray.specs.Tray.{tray_most}
 use Rattle.tray_form.proofs.Form.{walk_begins, walk-on, has-form, is_cut, too_many, all_seen}
-use denote.Enum.Declared.{tag_of, declared}
 use Rattle.tray_form.proofs.form_of.Goals as goal
 use Rattle.tray_form.proofs.form_of.Goals.{In-Whole, Left-loop-count, else-loop-count-test, then-loop-count-test+in_default}
 

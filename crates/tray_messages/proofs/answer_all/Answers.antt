@@ -1,14 +1,10 @@
 -- `answer_all`: the messages done so far, then those that are left.
-use Rattle.std.proofs.Common.{◌≡◌, refl, sym, ◌∙◌, subst, ⊎_elim, ℕ, ◌-◌, ◌+◌, ◌≤◌, ◌<◌, arith, ltb, length, leb-true, ltb-true, rules}
+use Rattle.std.proofs.Common.{refl, sym, ◌∙◌, ◌-◌, ◌+◌, ◌≤◌, ◌<◌, arith, ltb, length, leb-true, ltb-true, rules}
 use Rattle.laws.specs.All.{and-true}
 use Rattle.protocol.specs.Numbers.{answer_size}
 use Rattle.records.proofs.Found.{Found, found, found_in, found_none}
-use Rattle.records.specs.contracts.Record.{enum}
-use Rattle.records.specs.declared.Record.{Record}
-use Rattle.records.specs.declared.Record.TheVariants.{Whole}
 use Rattle.tray.specs.Tray.{tray_most}
 use Rattle.tray_messages.proofs.Progress.{begins, ends-left, ends-none, goes_to, reply-short}
-use denote.Enum.Declared.{tag_of, declared}
 use Rattle.tray_messages.proofs.answer_all.Goals as goal
 use Rattle.tray_messages.proofs.answer_all.Goals.{After-code-1, In-Whole, Start}
 

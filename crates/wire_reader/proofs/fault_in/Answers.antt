@@ -1,5 +1,5 @@
 -- `fault_in`: the fault of the message is the fault of what is still to come.
-use Rattle.std.proofs.Common.{refl, sym, ◌∙◌, ◌-◌, arith}
+use Rattle.std.proofs.Common.{refl, sym, ◌∙◌, arith}
 use Rattle.wire.proofs.Steps.{Here, here-less}
 use Rattle.wire.specs.Fields.{store_keys}
 use Rattle.wire_reader.proofs.WalkWays.{fault-end, fault-found, fault-on}

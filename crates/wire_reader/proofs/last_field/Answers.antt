@@ -1,5 +1,5 @@
 -- `last_field`: what is found so far is the last, unless what is still to come has a later one.
-use Rattle.std.proofs.Common.{sym, ◌∙◌, ◌-◌, arith}
+use Rattle.std.proofs.Common.{sym, ◌∙◌, arith}
 use Rattle.wire.proofs.Steps.{Here, here-less}
 use Rattle.wire.specs.Fields.{store_keys}
 use Rattle.wire_reader.proofs.WalkWays.{last-start, last_end, last-fault, last-hit, last-miss}

@@ -9,8 +9,11 @@ last_fits : (c : Then-b-lt128) → let l = c.loop-left in l.value + l.weight * c
 last_fits c = part-light c.loop-left.invariant c.wide-b.result (omega arith) (omega arith)
 
 more-fits : (c : Else-b-lt128) → let l = c.loop-left in l.value + l.weight * (c.wide-b.result - 128) < 2 ^ 64
-more-fits c = part-light c.loop-left.invariant (c.wide-b.result - 128) (omega arith) (omega (arith, (let the-fact : c.wide-b.result < 256 = omega
-    (arith, c.shared_slice_known-in-loop-left-1.given c.loop-left.i) in the-fact)))
+more-fits c = part-light c.loop-left.invariant (c.wide-b.result - 128) (omega arith) (omega (
+  arith,
+  (let the-fact : c.wide-b.result < 256 = omega
+      (arith, c.shared_slice_known-in-loop-left-1.given c.loop-left.i) in the-fact),
+))
 
 tenth-fits : (c : Else-b-gt1) → let l = c.loop-left in l.value + l.weight * c.wide-b-2.result < 2 ^ 64
 tenth-fits c = part-heavy c.loop-left.invariant c.wide-b-2.result (omega arith) (omega arith)
@@ -55,7 +58,7 @@ loop-left-smaller c = omega arith
 pub loop-left-preserved : goal.loop-left-preserved
 loop-left-preserved c =
     carry-next c.loop-left.invariant c.wide-b.ensures c.if-end-i.false (omega arith) (omega arith) ((let the-fact : c.wide-b.result < 256 = omega
-        (arith, c.shared_slice_known-in-loop-left-1.given c.loop-left.i) in the-fact))
+    (arith, c.shared_slice_known-in-loop-left-1.given c.loop-left.i) in the-fact))
 
 pub returns-then-end-i-2 : goal.returns-then-end-i-2
 returns-then-end-i-2 c = carry-cut c.loop-left.invariant c.if-end-i-2.true

@@ -1,5 +1,4 @@
 -- `number_at`: what is read so far, the weight of the next byte, and the number that is still to come.
-use Rattle.std.proofs.Common.{◌-◌}
 use Rattle.wire_reader.proofs.Carry.{Carries}
 use Rattle.wire_reader.proofs.number_at.Given as goal
 
