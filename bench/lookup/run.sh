@@ -12,7 +12,7 @@ trap 'rm -rf "$out"' EXIT
 trap 'exit 1' INT TERM HUP # so that the folder is removed then too
 mkdir -p "$out/linear/src" "$out/linear/proofs/find_linear"
 cp bench/lookup/linear.txt "$out/linear/src/lib.rt"
-cp bench/lookup/linear_proof.txt "$out/linear/proofs/find_linear/Proof.antt"
+cp bench/lookup/linear_proof.txt "$out/linear/proofs/find_linear/Invariants.antt"
 bench/wrapper.sh "$out/linear" "protocol state lookup"
 ${CC:-cc} -O2 -Iinclude bench/lookup/rows.c "$out/linear/liblinear.a" -o "$out/rows"
 "$out/rows"
