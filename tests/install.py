@@ -1,7 +1,7 @@
 #!/usr/bin/env python3
 """tools/install.sh puts in place what a C program builds against: it is run into an empty folder, and the C examples are built and run by the flags of the pkg-config file.
 
-install.py --check    needs target/staticlib/libcapi.a (rt staticlib capi) and a C compiler (CC, or cc)
+install.py --check    needs target/staticlib/libcapi.a (tools/archive.sh) and a C compiler (CC, or cc)
 
 Where pkg-config is not installed, the flags are read from the file here, and a line says so; where it is, both must give the same."""
 import os

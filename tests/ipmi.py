@@ -1,7 +1,7 @@
 #!/usr/bin/env python3
 """examples/ipmi/run.sh fails where it must, says where it was not run, and leaves nothing behind; tools/peers.sh never stops the gate.
 
-ipmi.py --check    needs target/staticlib/libcapi.a (rt staticlib capi); what needs an absent program is not run"""
+ipmi.py --check    needs target/staticlib/libcapi.a (tools/archive.sh); what needs an absent program is not run"""
 import ctypes
 import hashlib
 import os

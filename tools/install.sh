@@ -1,7 +1,7 @@
 #!/bin/sh
 # install.sh PREFIX: puts the header, the archive and a pkg-config file below PREFIX, as
 #   PREFIX/include/kramsnep.h   PREFIX/lib/libkramsnep.a   PREFIX/lib/pkgconfig/kramsnep.pc
-# First `rt staticlib capi`. Then, with PREFIX/lib/pkgconfig in PKG_CONFIG_PATH: cc program.c $(pkg-config --cflags --libs kramsnep)
+# First `tools/archive.sh`. Then, with PREFIX/lib/pkgconfig in PKG_CONFIG_PATH: cc program.c $(pkg-config --cflags --libs kramsnep)
 set -eu
 unset CDPATH
 usage() { echo "usage: install.sh PREFIX" >&2; exit 1; }
@@ -17,7 +17,7 @@ esac
 root=$(cd "$(dirname "$0")/.." && pwd)
 archive=$root/target/staticlib/libcapi.a
 header=$root/include/kramsnep.h
-[ -f "$archive" ] || { echo "install.sh: target/staticlib/libcapi.a is not there: run 'rt staticlib capi' first" >&2; exit 1; }
+[ -f "$archive" ] || { echo "install.sh: target/staticlib/libcapi.a is not there: run tools/archive.sh first" >&2; exit 1; }
 version=$(sed -n 's/^#define KRAMSNEP_VERSION "\(.*\)"$/\1/p' "$header")
 [ -n "$version" ] || { echo "install.sh: include/kramsnep.h has no version" >&2; exit 1; }
 

@@ -47,7 +47,7 @@ def source_files(crate):
 
 def listed_crates():
     lines = (ROOT / "crates.txt").read_text(encoding="utf-8").splitlines()
-    return [line.split(":")[0].strip() for line in lines if ":" in line.split("#")[0]]
+    return [line.split(":")[0].split()[0] for line in lines if ":" in line.split("#")[0]]
 
 
 def kind_groups(texts):
@@ -88,7 +88,7 @@ def bodies(text):
         if not opened or head.group(2) == "main":
             continue
         contract = text[head.end():opened.start()]
-        if "ensures {" not in contract or re.search(r"\n *(?:pub )?fn ", contract):
+        if not re.search(r"\bensures\b", contract) or re.search(r"\n *(?:pub )?fn ", contract):
             continue
         end = re.compile(rf"\n{head.group(1)}\}}").search(text, opened.end() - 1).start()
         parameters = contract[:re.search(r"\) *(?:->|\n|$)", contract).start()]
@@ -99,7 +99,8 @@ def sites(text, groups):
     """(kind, start, end, replacements) of each place of each body."""
     members, fields, constants = groups
     code = code_only(text)
-    own = {name for pair in re.findall(r"(?m)^use [\w:]+::([A-Z_]+);|^(?:pub )?const ([A-Z_]+):", text) for name in pair if name in constants}
+    brought = [name for line in re.findall(r"(?m)^use [^;]+;", text) for name in re.findall(r"\b[A-Z][A-Z_]+\b", line)]
+    own = {name for name in brought + re.findall(r"(?m)^(?:pub )?const ([A-Z_]+):", text) if name in constants}
     for body in bodies(text):
         def found(pattern):
             return re.compile(pattern).finditer(code, body.start, body.end)
@@ -164,20 +165,19 @@ def shown(edit):
 
 
 class Room:
-    """A copy of the repository outside it, in which one edit at a time is planted and asked."""
+    """A copy of the repository outside it, in which one edit at a time is planted and asked. What was proved already rt takes from where it was proved, on this machine."""
 
     def __init__(self, folder, timeout):
-        self.root, self.timeout = pathlib.Path(folder), timeout
-        shutil.copytree(ROOT / "crates", self.root / "crates", ignore=shutil.ignore_patterns("must-fail"))
-        shutil.copy(ROOT / "crates.txt", self.root)
-        for part in ("rlib", "stamp"):
-            if (ROOT / "target" / part).is_dir():
-                shutil.copytree(ROOT / "target" / part, self.root / "target" / part)
+        self.root, self.timeout, self.proved = pathlib.Path(folder), timeout, set()
+        shutil.copytree(ROOT / "crates", self.root / "crates", ignore=shutil.ignore_patterns("must-fail", "out"))
+        for name in ("crates.txt", "HANDLES"):
+            if (ROOT / name).is_file():
+                shutil.copy(ROOT / name, self.root)
 
-    def check(self, crate):
+    def check(self, crate, verb="check"):
         """What the prover says of the crate as it stands here: a word, and the log."""
-        child = subprocess.Popen(["rt", "dev", crate], cwd=self.root, env={**os.environ, "RT_JOBS": "1"}, stdin=subprocess.DEVNULL, stdout=subprocess.PIPE,
-                                 stderr=subprocess.STDOUT, text=True, errors="replace", start_new_session=True)
+        child = subprocess.Popen(["rt", verb, "--jobs", "1"], cwd=self.root / "crates" / crate, stdin=subprocess.DEVNULL, stdout=subprocess.PIPE, stderr=subprocess.STDOUT, text=True,
+                                 errors="replace", start_new_session=True)
         try:
             log, _ = child.communicate(timeout=self.timeout)
         except subprocess.TimeoutExpired:
@@ -187,20 +187,20 @@ class Room:
             return "survived", log
         if not re.search(r"(?m)^logic=not-proved", log):
             return "undecided" if child.returncode == 3 else "not asked", log
-        gone = r"(?m)^\S+: error: .*(?:that can be named from here|is not in scope)|^fn .*not covered"
-        return "unfit" if re.search(gone, log) else "refused", log
+        told = re.findall(r"(?m)^(?:note: \S+:\d+:\d+:|\S+:\d+:\d+: error).*$", log)
+        gone = r"(?:note: )?(?:\./)?proofs/.*(?:has no field|is not in scope|has no `|was not admitted)"
+        return "unfit" if told and all(re.match(gone, line) for line in told) else "refused", log
 
     def ask(self, edit):
         path = self.root / "crates" / edit.crate / "src" / edit.file
         text = path.read_text(encoding="utf-8")
-        inner = self.root / "target" / "inc" / edit.crate
-        if not inner.exists() and self.check(edit.crate)[0] != "survived":
+        if edit.crate not in self.proved and self.check(edit.crate)[0] != "survived":
             sys.exit(f"{edit.crate} is not proved as it stands: nothing can be asked of it")
+        self.proved.add(edit.crate)
         path.write_text(planted(text, edit), encoding="utf-8")
         verdict, log = self.check(edit.crate)
         if verdict == "survived":
-            shutil.rmtree(inner)  # nothing of an earlier check is trusted for a survivor
-            verdict, log = self.check(edit.crate)
+            verdict, log = self.check(edit.crate, "verdict")  # from nothing: no earlier check is trusted for a survivor
         path.write_text(text, encoding="utf-8")
         return verdict, log
 

@@ -5,11 +5,10 @@ tools/plants.py [NAME..] [--logs FOLDER]
 
 A code's contract only says that the code does what the definition says, so a definition that is wrong in code and specification alike is refused by nothing but a theorem. Each
 tools/plants/NAME.edit is one such definition, in the form of the must-fail edits with a line `crate: NAME` in front. It is planted in a copy, outside the repository, of the
-crates that hold theorems only and of those they stand on, with all code taken out, so that only theorems judge; the first crate that is refused is named, with what failed in it.
+crates that hold theorems only and of those they stand on, with all code and its proofs taken out, so that only theorems judge; the first crate that is refused is named, with what failed in it.
 A refusal counts only where a statement is false under the plant, and not where a proof's text merely no longer fits: read what failed. Where the statement still holds, the plant
 mends the proof too, behind a line `mend: FILE`, and the rest is asked; \\n in a text is a line's end. It is not part of the gate."""
 import argparse
-import os
 import pathlib
 import re
 import shutil
@@ -25,7 +24,7 @@ ROOT = mutants.ROOT
 def dependencies():
     """crate -> what crates.txt lists for it, of this repository."""
     lines = [line.split("#")[0] for line in (ROOT / "crates.txt").read_text(encoding="utf-8").splitlines()]
-    pairs = {line.split(":")[0].strip(): line.split(":")[1].split() for line in lines if ":" in line}
+    pairs = {line.split(":")[0].split()[0]: line.split(":")[1].split() for line in lines if ":" in line}
     return {name: [d for d in listed if d in pairs] for name, listed in pairs.items()}
 
 
@@ -63,16 +62,19 @@ def without_code(text):
 def copy_theorems(folder, table, crates):
     for crate in crates:
         shutil.copytree(ROOT / "crates" / crate / "src", folder / "crates" / crate / "src")
-        if (ROOT / "crates" / crate / "specs").is_dir():
-            shutil.copytree(ROOT / "crates" / crate / "specs", folder / "crates" / crate / "specs")
+        for part in ("specs", "proofs"):
+            for path in (ROOT / "crates" / crate / part).glob("*.antt"):  # right in it: what stands deeper proves a function
+                to = folder / "crates" / crate / part
+                to.mkdir(exist_ok=True)
+                shutil.copy(path, to)
         for path in (folder / "crates" / crate / "src").glob("*.rt"):
             path.write_text(without_code(path.read_text(encoding="utf-8")), encoding="utf-8")
     (folder / "crates.txt").write_text("".join(f"{c}: {' '.join(table[c])}\n" for c in crates), encoding="utf-8")
 
 
 def check(folder):
-    done = subprocess.run(["rt", "check"], cwd=folder, env={**os.environ, "RT_CUT": "0"}, capture_output=True, text=True, errors="replace")
-    return done.returncode, done.stdout + done.stderr
+    done = subprocess.run(["rt", "all", "check"], cwd=folder, stdout=subprocess.PIPE, stderr=subprocess.STDOUT, text=True, errors="replace")
+    return done.returncode, done.stdout
 
 
 def plant(edit, folder):

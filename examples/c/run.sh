@@ -1,11 +1,11 @@
 #!/bin/sh
 # Builds upload.c, backup.c, config.c and tray.c against the library and compares what each prints with its .expected; then gives upload a name that the library refuses,
-# which it must notice, and compares with refused.expected. Run anywhere; first `rt staticlib capi`.
+# which it must notice, and compares with refused.expected. Run anywhere; first `tools/archive.sh`.
 set -eu
 unset CDPATH
 cd "$(dirname "$0")/../.."
 library=target/staticlib/libcapi.a
-[ -f "$library" ] || { echo "$library is not there: run 'rt staticlib capi' first" >&2; exit 1; }
+[ -f "$library" ] || { echo "$library is not there: run tools/archive.sh first" >&2; exit 1; }
 out=$(mktemp -d)
 trap 'rm -rf "$out"' EXIT
 trap 'exit 1' INT TERM HUP # so that the folder is removed then too

@@ -1,7 +1,7 @@
 #!/bin/sh
 # The library behind ipmi_sim, asked by ipmitool and ipmi-raw. Builds the module, starts the simulator on a free port of 127.0.0.1, compares every
 # answer, and ends what it started. Exit status 0 where all came back as expected, 1 otherwise. Where a program is absent that it needs, it says
-# so and ends with 0: nothing was tested. First `rt staticlib capi`, and `tools/peers.sh` for the programs.
+# so and ends with 0: nothing was tested. First `tools/archive.sh`, and `tools/peers.sh` for the programs.
 #
 #   examples/ipmi/run.sh [STORY]     CC, CFLAGS and LDFLAGS are those of the module
 #   examples/ipmi/run.sh --serve     starts a controller to be asked by hand, and ends it when it is interrupted
@@ -22,7 +22,7 @@ for peer in ipmi_sim ipmitool ipmi-raw; do
 done
 printf '#include <OpenIPMI/serv.h>\n' | ${CC:-cc} -E - >/dev/null 2>&1 || { echo "ipmi: not run: OpenIPMI/serv.h is absent"; exit 0; }
 library=target/staticlib/libcapi.a
-[ -f "$library" ] || { echo "$library is not there: run 'rt staticlib capi' first" >&2; exit 1; }
+[ -f "$library" ] || { echo "$library is not there: run tools/archive.sh first" >&2; exit 1; }
 out=$(mktemp -d)
 driver=
 trap 'rm -rf "$out"' EXIT
