@@ -99,12 +99,13 @@ def plant(edit, folder):
 
 
 def failures(log):
-    """crate/file:line and declaration of each fault, but for those that only wait for another."""
-    found = []
+    """crate, file:line, declaration and words of each fault, but for those that only wait for another. A line `== NAME` stands above what is said of a crate."""
+    found, crate = [], ""
     for line in log.splitlines():
-        fault = re.match(r".*?/crates/(\w+)/(specs/\w+\.antt:\d+):\d+: error: (?:`([^`]+)`: )?(.*)", line)
-        if fault and "was not admitted" not in line:
-            found.append((fault.group(1), fault.group(2), fault.group(3) or "", fault.group(4)[:160]))
+        crate = line[3:] if line.startswith("== ") else crate
+        fault = re.match(r"(?:\./)?((?:specs|proofs)/\w+\.antt:\d+):\d+: error: (?:`([^`]+)`: )?(.*)", line)
+        if fault and not re.search(r"was not admitted|was not checked|were not checked", line):
+            found.append((crate, fault.group(1), fault.group(2) or "", fault.group(3)[:160]))
     return found
 
 
