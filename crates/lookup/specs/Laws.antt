@@ -1,7 +1,7 @@
 -- Laws of the searches' loops. Assumes nothing.
 use Rattle.std.proofs.Math.Path.{◌≡◌, refl, sym, ap}
 use Rattle.std.proofs.Common.{◌∙◌, add-one, arith, eqb-true, eq-eqb, get_or-take, get_or-append-add}
-use Rattle.std.specs.Prelude.{◌≢◌, Bool, List, ◌++◌, ℕ, zero, suc, ◌+◌, ◌*◌, ◌-◌, ◌%◌, ◌≤◌, ◌<◌, eqb, ltb, length, get_or, replicate}
+use Rattle.std.specs.Prelude.{◌≢◌, Option as Answer, Bool, List, ◌++◌, ℕ, zero, suc, ◌+◌, ◌*◌, ◌-◌, ◌%◌, ◌≤◌, ◌<◌, eqb, ltb, length, get_or, replicate}
 use Rattle.std.proofs.Math.Bool.{true, false}
 use Rattle.std.proofs.Math.Option.{Option, none, some}
 use Rattle.std.proofs.Math.Decide.{dec_lt}
@@ -18,7 +18,6 @@ use Rattle.protocol.specs.Numbers.{row_count, slot_count, row_words, name_size, 
 use Rattle.state.specs.State.{State, Rows, Row, in_sessions, with_rows, with_names}
 use Rattle.state.specs.Words.{fresh}
 use Rattle.state.specs.Lent.{TableLent}
-use Rattle.state.specs.declared.mask.Found.{Found}
 use Rattle.state.specs.Answers.{option_of}
 use Rattle.state.specs.declared.row.Wanted.{Wanted}
 use Rattle.state.specs.declared.row.Wanted.TheVariants.{Id}
@@ -111,9 +110,9 @@ pub table-lent : (rows : ℕ) (table : List ℕ) → table_fits rows table ≡ t
 table-lent rows table e = eqb-true _ _ (and-true (eqb (length table) (row_count * row_words)) (ltb rows sixteen_bits) e).0
 
 module _ (id rows : ℕ) (table : List ℕ) (x : RowSearch) (looked : search_of x ≡ searched (Id id) (with_rows rows table fresh)) where
-  pub looked-search : (found : Found) → x.row ≡ found → table_fits rows table ≡ true → looked_by (option_of found) x.visits ≡ looked_up id rows table
+  pub looked-search : (found : Answer ℕ) → x.row ≡ found → table_fits rows table ≡ true → looked_by (option_of found) x.visits ≡ looked_up id rows table
   looked-search found p fits =
-      ap (λ (f : Found). looked_by (option_of f) x.visits) (sym p) ∙ ap (λ (y : Search). looked_by y.row y.visits) looked ∙ sym (looked-by id rows table fits)
+      ap (λ (f : Answer ℕ). looked_by (option_of f) x.visits) (sym p) ∙ ap (λ (y : Search). looked_by y.row y.visits) looked ∙ sym (looked-by id rows table fits)
 
 -- ---- equal lists, byte by byte
 -- two lists agree at i

@@ -16,7 +16,7 @@ ghost use Rattle.lookup.specs.Search.{is_none, search_of, lookup_of, FoundRow, F
 ghost use Rattle.rules.specs.Lookup.{after, fresh_from};
 
 use protocol::Code;
-use state::mask::{Found, clear_lowest, has};
+use state::mask::{clear_lowest, has};
 use state::row::{Entry, Wanted, read_row};
 use state::{NAME_SIZE, ROW_WORDS, ROWS, SIXTEEN_BITS, SLOTS};
 
@@ -34,7 +34,7 @@ fn matches(e: Entry, w: Wanted) -> bool
 // What a search for a row gives: the row, and how many used rows it visited.
 #[derive(Clone, Copy)]
 pub struct RowSearch {
-    pub row: Found,
+    pub row: Option<usize>,
     pub visits: u32,
 }
 
@@ -50,33 +50,28 @@ pub fn search_rows(table: &[u32], rows: u32, w: Wanted) -> RowSearch
         let r = u32::trailing_zeros(left) as usize;
         if matches(read_row(table, r), w) {
             return RowSearch {
-                row: Found::At(r),
+                row: Some(r),
                 visits: visits + 1,
             };
         }
         visits += 1;
         left = clear_lowest(left);
     }
-    RowSearch {
-        row: Found::Nothing,
-        visits,
-    }
+    RowSearch { row: None, visits }
 }
 
 // The first used row that is the one wanted.
-pub fn find_row(table: &[u32], rows: u32, w: Wanted) -> Found
+pub fn find_row(table: &[u32], rows: u32, w: Wanted) -> Option<usize>
     requires { TableLent table.now }
     ensures { FoundRow result w rows table.now }
 {
-    let search = search_rows(table, rows, w);
-    search.row
+    search_rows(table, rows, w).row
 }
 
-// What is said of an identifier: the completion code, the row, and how many used rows were visited.
+// What is said of an identifier: its row, or the completion code that refuses it; and how many used rows were visited.
 #[derive(Clone, Copy)]
 pub struct Lookup {
-    pub code: Code,
-    pub row: u32,
+    pub row: Result<u32, Code>,
     pub visits: u32,
 }
 
@@ -93,25 +88,18 @@ pub fn find_session(identifier: u32, rows: u32, table: &[u32]) -> Lookup
 {
     if !table_fits(rows, table) {
         return Lookup {
-            code: Code::NOT_SOUND,
-            row: 0,
+            row: Err(Code::NOT_SOUND),
             visits: 0,
         };
     }
     let search = search_rows(table, rows, Wanted::Id(identifier));
-    let found = search.row;
-    let visits = search.visits;
-    match found {
-        Found::At(r) => Lookup {
-            code: Code::SUCCESS,
-            row: r as u32,
-            visits,
-        },
-        Found::Nothing => Lookup {
-            code: Code::NOT_FOUND,
-            row: 0,
-            visits,
-        },
+    let row = match search.row {
+        Some(r) => Ok(r as u32),
+        None => Err(Code::NOT_FOUND),
+    };
+    Lookup {
+        row,
+        visits: search.visits,
     }
 }
 
@@ -138,7 +126,13 @@ fn same_name(names: &[u8], k: usize, message: &[u8], start: usize, len: usize) -
 }
 
 // The used slot that holds the name: only used slots are visited, as rows are.
-pub fn find_name(names: &[u8], slots: u32, message: &[u8], start: usize, len: usize) -> Found
+pub fn find_name(
+    names: &[u8],
+    slots: u32,
+    message: &[u8],
+    start: usize,
+    len: usize,
+) -> Option<usize>
     requires { NamesLent names.now × (start + len ≤ length message.now) }
     ensures { FoundName result (part start len message.now) slots names.now }
 {
@@ -146,11 +140,11 @@ pub fn find_name(names: &[u8], slots: u32, message: &[u8], start: usize, len: us
     while left != 0 {
         let k = u32::trailing_zeros(left) as usize;
         if same_name(names, k, message, start, len) {
-            return Found::At(k);
+            return Some(k);
         }
         left = clear_lowest(left);
     }
-    Found::Nothing
+    None
 }
 
 // No session has the identifier.
@@ -158,10 +152,7 @@ fn is_unused(table: &[u32], rows: u32, id: u32) -> bool
     requires { TableLent table.now }
     ensures { (s : State) → result ≡ is_none (row_found (Id id) (with_rows rows table.now s)) }
 {
-    match find_row(table, rows, Wanted::Id(id)) {
-        Found::At(_) => false,
-        Found::Nothing => true,
-    }
+    find_row(table, rows, Wanted::Id(id)).is_none()
 }
 
 // The identifier's successor: "65,535 being followed by 0".
@@ -170,10 +161,7 @@ pub fn next_id(id: u32) -> u32
     ensures { (result ≡ after id) × (result < sixteen_bits) }
 {
     let next = id + 1;
-    if next == SIXTEEN_BITS {
-        return 0;
-    }
-    next
+    if next == SIXTEEN_BITS { 0 } else { next }
 }
 
 // The first unused identifier from `next` upward.
@@ -182,13 +170,11 @@ pub fn fresh_id(table: &[u32], rows: u32, next: u32) -> u32
     ensures { ((s : State) → result ≡ fresh_from row_count next (with_rows rows table.now s)) × (result < sixteen_bits) }
 {
     let mut id = next;
-    let mut i: usize = 0;
-    while i < ROWS {
+    for _ in 0..ROWS {
         if is_unused(table, rows, id) {
-            return id;
+            break;
         }
         id = next_id(id);
-        i += 1;
     }
     id
 }
@@ -199,15 +185,13 @@ pub fn nth_set(mask: u32, i: u32) -> usize
     ensures { Nth mask i result }
 {
     let mut seen: u32 = 0;
-    let mut k: usize = 0;
-    while k < SLOTS - 1 {
+    for k in 0..SLOTS - 1 {
         if has(mask, k) {
             if seen == i {
                 return k;
             }
             seen += 1;
         }
-        k += 1;
     }
-    k
+    SLOTS - 1
 }

@@ -1,9 +1,7 @@
--- What a search's answer says, as a definition gives it.
+-- What a search's answer says, as a definition gives it: the code's Option is not the definitions'.
 use Rattle.std.proofs.Math.Option.{Option, none, some}
-use Rattle.std.specs.Prelude.{ℕ}
-use Rattle.state.specs.declared.mask.Found.{Found}
-use Rattle.state.specs.declared.mask.Found.TheVariants.{At, Nothing}
+use Rattle.std.specs.Prelude.{ℕ, Option as Answer, Some, None}
 
-abbrev pub option_of : Found → Option ℕ
-option_of (At i) = some i
-option_of Nothing = none
+abbrev pub option_of : Answer ℕ → Option ℕ
+option_of (Some i) = some i
+option_of None = none

@@ -5,7 +5,6 @@ ghost use Rattle.std.specs.Prelude.{◌≡◌};
 ghost use Rattle.state.specs.Soundness.{is_idle, is_uploading, is_verified};
 
 pub mod mask;
-pub mod numbers;
 pub mod row;
 pub mod values;
 
@@ -65,35 +64,23 @@ impl Phase {
     pub fn is_idle(self) -> bool
         ensures { result ≡ is_idle self }
     {
-        match self {
-            Phase::Idle => true,
-            Phase::Uploading => false,
-            Phase::Verified => false,
-        }
+        matches!(self, Phase::Idle)
     }
 
     pub fn is_uploading(self) -> bool
         ensures { result ≡ is_uploading self }
     {
-        match self {
-            Phase::Idle => false,
-            Phase::Uploading => true,
-            Phase::Verified => false,
-        }
+        matches!(self, Phase::Uploading)
     }
 
     pub fn is_verified(self) -> bool
         ensures { result ≡ is_verified self }
     {
-        match self {
-            Phase::Idle => false,
-            Phase::Uploading => false,
-            Phase::Verified => true,
-        }
+        matches!(self, Phase::Verified)
     }
 }
 
-// masks of rows used, slots used and slots committed; lengths of each slot; phase and lengths of the flash; next identifier; last sweep
+// Masks of rows used, slots used and slots committed; lengths of each slot; phase and lengths of the flash; next identifier; last sweep
 #[derive(Clone, Copy)]
 pub struct Control {
     pub rows: u32,

@@ -9,13 +9,6 @@ ghost use Rattle.state.specs.Answers.{option_of};
 
 use crate::SLOTS;
 
-// Where a search found what it looked for.
-#[derive(Clone, Copy)]
-pub enum Found {
-    At(usize),
-    Nothing,
-}
-
 // Bit i of a mask.
 pub fn bit_of(mask: u32, i: usize) -> u32
     requires { i < 32 }
@@ -57,12 +50,9 @@ pub fn clear_lowest(mask: u32) -> u32
 }
 
 // The lowest clear bit of a mask of 16 places: "the lowest free row", "the lowest free slot".
-pub fn lowest_free(mask: u32) -> Found
+pub fn lowest_free(mask: u32) -> Option<usize>
     ensures { option_of result ≡ first (clear mask) slot_count }
 {
     let i = u32::trailing_zeros(!mask) as usize;
-    if i < SLOTS {
-        return Found::At(i);
-    }
-    Found::Nothing
+    if i < SLOTS { Some(i) } else { None }
 }

@@ -8,7 +8,6 @@ ghost use Rattle.state.specs.State.{place_of};
 ghost use Rattle.state.specs.Entry.{words_of, lifted, status_set, clean_set};
 ghost use Rattle.state.specs.Lent.{TableLent};
 
-use crate::numbers::max_u32;
 use crate::{CLEAN_UNIT, ROW_WORDS, SLOTS, STATUS_UNIT, Status};
 use protocol::{Flags, FlashKind};
 
@@ -85,10 +84,8 @@ impl Entry {
         ensures { result ≡ lifted self clock }
     {
         Entry {
-            id: self.id,
-            blob: self.blob,
-            word: self.word,
-            stamp: max_u32(self.stamp, clock),
+            stamp: self.stamp.max(clock),
+            ..self
         }
     }
 
@@ -98,10 +95,8 @@ impl Entry {
         ensures { result ≡ status_set self status }
     {
         Entry {
-            id: self.id,
-            blob: self.blob,
             word: word_with(self.flags(), status, self.clean()),
-            stamp: self.stamp,
+            ..self
         }
     }
 
@@ -111,10 +106,8 @@ impl Entry {
         ensures { result ≡ clean_set self clean }
     {
         Entry {
-            id: self.id,
-            blob: self.blob,
             word: word_with(self.flags(), self.status(), clean),
-            stamp: self.stamp,
+            ..self
         }
     }
 }

@@ -11,5 +11,5 @@ overflow_cast-i c = record { fits = omega (arith, trailing_le 32 (4294967295 - c
 pub returns-then-i-lt-SLOTS : goal.returns-then-i-lt-SLOTS
 returns-then-i-lt-SLOTS c = let m = c.args.mask in sym (lowest-clear 32 16 m (omega arith) (omega arith) ∙ ap (λ (y : Bool). cond y (some (lowest 32 m)) none) (lt-ltb (lowest 32 m) 16 (omega arith)))
 
-pub returns : goal.returns
-returns c = let m = c.args.mask in sym (lowest-clear 32 16 m (omega arith) (omega arith) ∙ ap (λ (y : Bool). cond y (some (lowest 32 m)) none) (le-ltb (lowest 32 m) 16 (omega arith)))
+pub returns-else-i-lt-SLOTS : goal.returns-else-i-lt-SLOTS
+returns-else-i-lt-SLOTS c = let m = c.args.mask in sym (lowest-clear 32 16 m (omega arith) (omega arith) ∙ ap (λ (y : Bool). cond y (some (lowest 32 m)) none) (le-ltb (lowest 32 m) 16 (omega arith)))
