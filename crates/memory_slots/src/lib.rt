@@ -65,21 +65,19 @@ pub fn put_region(dst: &mut [u8], k: usize, src: &[u8], start: usize, len: usize
 // Slot k becomes free: its name, its marks, its lengths and both regions are zeroed.
 pub fn free_slot(
     k: usize,
-    control: Control,
+    control: &mut Control,
     names: &mut [u8],
     committed: &mut [u8],
     staged: &mut [u8],
-) -> Control
+)
     requires { (k < slot_count) × (NamesLent names.old × (RegionsLent committed.old × RegionsLent staged.old)) }
-    ensures { (table image hash : List ℕ) → state_of result table names.new committed.new staged.new image hash ≡ (in_body (AtSlot k)).put free_slot (state_of control table names.old committed.old staged.old image hash) }
+    ensures { (table image hash : List ℕ) → state_of control.new table names.new committed.new staged.new image hash ≡ (in_body (AtSlot k)).put free_slot (state_of control.old table names.old committed.old staged.old image hash) }
 {
     clear_name(names, k);
     clear_region(committed, k);
     clear_region(staged, k);
-    let mut next = control;
-    next.slots = clear_bit(control.slots, k);
-    next.marks = clear_bit(control.marks, k);
-    next.committed_len[k] = 0;
-    next.staged_len[k] = 0;
-    next
+    control.slots = clear_bit(control.slots, k);
+    control.marks = clear_bit(control.marks, k);
+    control.committed_len[k] = 0;
+    control.staged_len[k] = 0;
 }

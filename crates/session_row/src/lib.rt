@@ -2,48 +2,16 @@
 #![tactic(auto)]
 
 ghost use Rattle.std.specs.Prelude.{◌≡◌, cond, ◌+◌, ◌≤◌, ◌<◌, length};
-ghost use Rattle.protocol.specs.Numbers.{row_count, sixteen_bits};
-ghost use Rattle.state.specs.Entry.{words_of};
-ghost use Rattle.state.specs.Lent.{TableLent};
+ghost use Rattle.protocol.specs.Numbers.{sixteen_bits};
 ghost use Rattle.rules.specs.Command.{commit_fits, state_bits};
-ghost use Rattle.session_row.specs.Write.{written, said_by, length_by, region_by, table_by};
+ghost use Rattle.session_row.specs.Write.{written, region_by};
 
 use memory_copy::copy_at;
 use protocol::{BlobState, Code, Flags};
-use response_types::Said;
 use state::Status;
-use state::numbers::max_u32;
-use state::row::{Entry, write_row};
+use state::row::Entry;
 
-// What a Write comes to: a refusal with its code, or the length after it.
-#[derive(Clone, Copy)]
-pub enum Written {
-    Refused(Code),
-    Length(u32),
-}
-
-impl Written {
-    pub fn said(self) -> Said
-        ensures { result ≡ said_by self }
-    {
-        match self {
-            Written::Refused(code) => Said::Refused(code),
-            Written::Length(_) => Said::Done,
-        }
-    }
-
-    // The length of a region that had `len` bytes.
-    pub fn length(self, len: u32) -> u32
-        ensures { result ≡ length_by self len }
-    {
-        match self {
-            Written::Refused(_) => len,
-            Written::Length(n) => n,
-        }
-    }
-}
-
-// A Write into a region of `capacity` bytes that starts at `start` and has `len` bytes so far.
+// A Write into a region of `capacity` bytes that starts at `start` and has `len` bytes so far: the length after it, or a refusal, which changes nothing.
 pub fn write_region(
     region: &mut [u8],
     start: usize,
@@ -51,30 +19,19 @@ pub fn write_region(
     len: u32,
     offset: u32,
     bytes: &[u8],
-) -> Written
+) -> Result<u32, Code>
     requires { (start + capacity ≤ length region.old) × (capacity < sixteen_bits) }
     ensures { (result ≡ written capacity len offset (length bytes.now)) × (region.new ≡ region_by result (start + offset) bytes.now region.old) }
 {
     if len < offset {
-        return Written::Refused(Code::OUT_OF_RANGE);
+        return Err(Code::OUT_OF_RANGE);
     }
     let end = offset as usize + bytes.len();
     if capacity < end {
-        return Written::Refused(Code::TOO_LONG);
+        return Err(Code::TOO_LONG);
     }
     copy_at(region, start + offset as usize, bytes);
-    Written::Length(max_u32(len, end as u32))
-}
-
-// Row r becomes e, if the Write was accepted.
-pub fn write_row_if(table: &mut [u32], r: usize, e: Entry, w: Written)
-    requires { TableLent table.old × (r < row_count) }
-    ensures { table.new ≡ table_by w r (words_of e) table.old }
-{
-    match w {
-        Written::Refused(_) => {}
-        Written::Length(_) => write_row(table, r, e),
-    }
+    Ok(len.max(end as u32))
 }
 
 // A commit's length byte equals the bytes after it and is 0.

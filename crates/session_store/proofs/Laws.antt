@@ -24,10 +24,10 @@ use Rattle.rules.specs.Store.{on_store, read_store, read_count, seen_length, see
 use Rattle.rules.specs.Command.{Command, read, write, commit, stat, close, Out, refuse, placed, bytes_after, length_after, commit_fits, state_bits}
 use Rattle.rules.specs.Session.{on_row}
 use Rattle.protocol.proofs.Sizes.{slot-size}
-use Rattle.response_types.specs.declared.Said.{Said}
+use Rattle.protocol.specs.declared.Code.{Code}
+use Rattle.std.specs.Prelude.{Ok, Err}
 use Rattle.response_types.specs.After.{reply_of, fields_laid}
-use Rattle.session_row.specs.declared.Written.{Written}
-use Rattle.session_row.specs.Write.{written, written_has, said_by, length_by, region_by, table_by}
+use Rattle.session_row.specs.Write.{Written, written, written_has, said_by, length_by, region_by, table_by}
 use Rattle.memory_slots.specs.Slots.{staged_as, staged-put}
 use Rattle.session_row.specs.Lent.{OnSlot}
 use Rattle.session_row.specs.OnRow.{row_read, does, refuses, with, put-slot, row_kept, row-freed, slot-put}
@@ -135,18 +135,24 @@ module _ (s : State) (r : ℕ) (e : Entry) (words : (block row_words r).get s.se
         ap (λ (l : List ℕ). (refused code, with s s.sessions (staged_as s.store.staged l s.store) s.flash_group)) (set-get_or s.store.staged_lens k 0) ∙ part-refuses (write offset ws) code u)
         (write-writer t x b offset ws p)
 
-    pub write-is : (w : Written) (said : Said) (f : Entry) (table g : List ℕ) (len : ℕ) → length s.store.staged ≡ slot_count * slot_size → eqb (writing_in e.word) 1 ≡ true
-        → w ≡ written 4096 (get_or s.store.staged_lens k 0) offset (length ws) → said ≡ said_by w → f ≡ lifted (written_row ws e) t → table ≡ table_by w r (words_of f) s.sessions.table
-        → g ≡ region_by w (k * 4096 + offset) ws s.store.staged → len ≡ length_by w (get_or s.store.staged_lens k 0)
-        → (reply_of said answer, with s (record { table = table; rows = s.sessions.rows }) (staged_as g (set s.store.staged_lens k len) s.store) s.flash_group) ≡ on_row r t (write offset ws) s
-    write-is w said f table g len size p pw ps pf pt pg pl =
-        (λ i. (
-          reply_of (ps i) answer,
-          with s (record { table = (pt ∙ ap (λ (y : Entry). table_by w r (words_of y) s.sessions.table) pf) i; rows = s.sessions.rows })
-              (staged_as (pg i) (set s.store.staged_lens k (pl i)) s.store) s.flash_group,
-        ))
-        ∙ ap Left (pw ∙ ap (λ (m : ℕ). written m (get_or s.store.staged_lens k 0) offset (length ws)) (sym slot-size))
-        ∙ left_is size p
+    -- what the rules give, where the Write comes to w
+    gives : (w : Written) → length s.store.staged ≡ slot_count * slot_size → eqb (writing_in e.word) 1 ≡ true
+        → w ≡ written 4096 (get_or s.store.staged_lens k 0) offset (length ws) → Left w ≡ on_row r t (write offset ws) s
+    gives w size p pw = ap Left (pw ∙ ap (λ (m : ℕ). written m (get_or s.store.staged_lens k 0) offset (length ws)) (sym slot-size)) ∙ left_is size p
+
+    module _ (w : Written) (g : List ℕ) (size : length s.store.staged ≡ slot_count * slot_size) (p : eqb (writing_in e.word) 1 ≡ true)
+        (pw : w ≡ written 4096 (get_or s.store.staged_lens k 0) offset (length ws)) (pg : g ≡ region_by w (k * 4096 + offset) ws s.store.staged) where
+      pub write-refused : (code : Code) → w ≡ Err code → (refused code.0, with s s.sessions (staged_as g s.store.staged_lens s.store) s.flash_group) ≡ on_row r t (write offset ws) s
+      write-refused code q =
+          let bytes : g ≡ s.store.staged = pg ∙ ap (λ (y : Written). region_by y (k * 4096 + offset) ws s.store.staged) q in
+          (λ i. (refused code.0, with s s.sessions (staged_as (bytes i) (sym (set-get_or s.store.staged_lens k 0) i) s.store) s.flash_group)) ∙ ap Left (sym q) ∙ gives w size p pw
+
+      pub write-accepted : (n : ℕ) (f : Entry) (table : List ℕ) → w ≡ Ok n → f ≡ lifted (written_row ws e) t → table ≡ (block row_words r).put (words_of f) s.sessions.table
+          → (done, with s (record { table = table; rows = s.sessions.rows }) (staged_as g (set s.store.staged_lens k n) s.store) s.flash_group) ≡ on_row r t (write offset ws) s
+      write-accepted n f table q pf pt =
+          let bytes : g ≡ sets s.store.staged (k * 4096 + offset) ws = pg ∙ ap (λ (y : Written). region_by y (k * 4096 + offset) ws s.store.staged) q in
+          let rows : table ≡ (block row_words r).put (words_of (lifted (written_row ws e) t)) s.sessions.table = pt ∙ ap (λ (y : Entry). (block row_words r).put (words_of y) s.sessions.table) pf in
+          (λ i. (done, with s (record { table = rows i; rows = s.sessions.rows }) (staged_as (bytes i) (set s.store.staged_lens k n) s.store) s.flash_group)) ∙ ap Left (sym q) ∙ gives w size p pw
 
   -- Commit
   module _ (len rest : ℕ) where

@@ -10,4 +10,4 @@ pub returns-then-capacity-end : goal.returns-then-capacity-end
 returns-then-capacity-end c = (rw (le-leb _ _ c.if-len-offset.false, lt-leb _ _ c.if-capacity-end.true), refl)
 
 pub returns : goal.returns
-returns c = (rw (le-leb _ _ c.if-len-offset.false, le-leb _ _ c.if-capacity-end.false, c.max_u32.ensures), c.copy_at.ensures)
+returns c = (rw (le-leb _ _ c.if-len-offset.false, le-leb _ _ c.if-capacity-end.false, c.max.ensures), c.copy_at.ensures)

@@ -4,7 +4,6 @@ use Rattle.std.proofs.lemmas.Bool.{not-true, not-false}
 use Rattle.std.specs.Prelude.{not}
 use Rattle.laws.specs.All.{flag_true, flag-false}
 use Rattle.protocol.specs.Frame.{done}
-use Rattle.response_types.specs.Laws.{done-leaves}
 use Rattle.session_store.proofs.Laws.{close-read, close-kept, close-fresh}
 use Rattle.state.specs.State.{State, state_of}
 use Rattle.session_store.proofs.close.Goals as goal
@@ -13,26 +12,23 @@ pub returns-then-not-writes : goal.returns-then-not-writes
 returns-then-not-writes c =
     let a = c.args in
     λ (t : ℕ) (im h x : List ℕ).
-    done-leaves x c.done.ensures
-    (close-read (state_of a.control a.table.now a.names.now a.committed.now a.staged.now im h) a.r a.e c.requires.0.words_of_row
-    c.requires.1.0 t c.clear_row.new.table c.clear_bit.result c.clear_row.ensures c.clear_bit.ensures
+    (close-read (state_of a.control.now a.table.now a.names.now a.committed.now a.staged.now im h) a.r a.e c.requires.0.words_of_row
+    c.requires.1.0 t c.clear_row.new.table c.clear_bit-control.result c.clear_row.ensures c.clear_bit-control.ensures
     (sym c.writes.ensures ∙ not-true _ (ap not c.if-not-writes.true)))
 
 pub returns-then-not-has : goal.returns-then-not-has
 returns-then-not-has c =
     let a = c.args in
     λ (t : ℕ) (im h x : List ℕ).
-    done-leaves x c.done-then-not-has.ensures
-    (ap (λ (y : State). (done, y)) (c.free_slot-freed.ensures c.clear_row.new.table im h)
-    ∙ close-fresh (state_of a.control a.table.now a.names.now a.committed.now a.staged.now im h) a.r a.e c.requires.0.words_of_row c.requires.1.0 t c.clear_row.new.table
-    c.clear_bit.result c.clear_row.ensures c.clear_bit.ensures (sym c.writes.ensures ∙ not-false _ (ap not c.if-not-writes.false))
+    (ap (λ (y : State). (done, y)) (c.free_slot.ensures c.clear_row.new.table im h)
+    ∙ close-fresh (state_of a.control.now a.table.now a.names.now a.committed.now a.staged.now im h) a.r a.e c.requires.0.words_of_row c.requires.1.0 t c.clear_row.new.table
+    c.clear_bit-control.result c.clear_row.ensures c.clear_bit-control.ensures (sym c.writes.ensures ∙ not-false _ (ap not c.if-not-writes.false))
     (flag-false c.has.ensures (ap not c.if-not-has.true)))
 
 pub returns : goal.returns
 returns c =
     let a = c.args in
     λ (t : ℕ) (im h x : List ℕ).
-    done-leaves x c.done-2.ensures
-    (close-kept (state_of a.control a.table.now a.names.now a.committed.now a.staged.now im h) a.r a.e c.requires.0.words_of_row
-    c.requires.1.0 t c.clear_row.new.table c.clear_bit.result c.clear_row.ensures c.clear_bit.ensures
+    (close-kept (state_of a.control.now a.table.now a.names.now a.committed.now a.staged.now im h) a.r a.e c.requires.0.words_of_row
+    c.requires.1.0 t c.clear_row.new.table c.clear_bit-control.result c.clear_row.ensures c.clear_bit-control.ensures
     c.clear_region.new.dst (sym c.writes.ensures ∙ not-false _ (ap not c.if-not-writes.false)) (flag_true c.has.ensures (ap not c.if-not-has.false)) c.clear_region.ensures)
