@@ -9,8 +9,7 @@ use lib.ListN.{get_or}
 use Rattle.laws.specs.Ranges.{block}
 use Rattle.protocol.specs.Numbers.{row_words, slot_count, not_supported}
 use Rattle.protocol.specs.Frame.{Reply, refused}
-use Rattle.state.specs.declared.mask.Found.{Found}
-use Rattle.state.specs.declared.mask.Found.TheVariants.{At, Nothing}
+use Rattle.std.specs.Prelude.{Option as Answer, Some, None}
 use Rattle.state.specs.declared.row.Entry.{Entry}
 use Rattle.state.specs.Entry.{words_of}
 use Rattle.state.specs.declared.row.Place.{Place}
@@ -32,24 +31,24 @@ use Rattle.response_types.specs.After.{fields_laid}
 use Rattle.session_row.specs.OnRow.{refuses}
 use Rattle.session_row.specs.Lent.{RowIs}
 
-module _ (s : State) (t : ℕ) (cmd : Command) {w : Wanted} {x : Found} (looked : FoundRow x w s.sessions.rows s.sessions.table) where
+module _ (s : State) (t : ℕ) (cmd : Command) {w : Wanted} {x : Answer ℕ} (looked : FoundRow x w s.sessions.rows s.sessions.table) where
   -- what is shown of the row that was found holds of the session
-  pub of_row : {r : ℕ} {o : Reply × State} → x ≡ At r → o ≡ on_row r t cmd s → o ≡ on_session w t cmd s
+  pub of_row : {r : ℕ} {o : Reply × State} → x ≡ Some r → o ≡ on_row r t cmd s → o ≡ on_session w t cmd s
   unfolding on_session
   of_row p u = u ∙ ap (λ (y : Option ℕ). on_found y w t cmd s) (sym (row_in s looked p))
 
   -- no row was found
-  pub of_none : x ≡ Nothing → (absent w, s) ≡ on_session w t cmd s
+  pub of_none : x ≡ None → (absent w, s) ≡ on_session w t cmd s
   unfolding on_session
   of_none p = ap (λ (y : Option ℕ). on_found y w t cmd s) (sym (row_in s looked p))
 
 -- the row that was found, read as e
-pub row_is : {x : Found} {w : Wanted} {rows : ℕ} {table : List ℕ} {r : ℕ} {e : Entry} → FoundRow x w rows table → x ≡ At r → TableLent table →
+pub row_is : {x : Answer ℕ} {w : Wanted} {rows : ℕ} {table : List ℕ} {r : ℕ} {e : Entry} → FoundRow x w rows table → x ≡ Some r → TableLent table →
     (block row_words r).get table ≡ words_of e → RowIs table r e
 row_is looked p size u = record { table-size = size; row_low = row_low looked p; words_of_row = u }
 
 -- the flash session's row names a flash blob
-pub found-flash : {x : Found} {rows : ℕ} {table : List ℕ} {r : ℕ} {e : Entry} → FoundRow x OnFlash rows table → x ≡ At r → (block row_words r).get table ≡ words_of e → place_of e.blob ≡ AtFlash
+pub found-flash : {x : Answer ℕ} {rows : ℕ} {table : List ℕ} {r : ℕ} {e : Entry} → FoundRow x OnFlash rows table → x ≡ Some r → (block row_words r).get table ≡ words_of e → place_of e.blob ≡ AtFlash
 found-flash {rows = rows} {table = table} {r = r} {e = e} looked p u =
     let h = (found-row OnFlash (with_rows rows table fresh) r (row_in (with_rows rows table fresh) looked p)).1 in
     place-flash e.blob (leb-true slot_count e.blob (sym (ap (λ (l : List ℕ). leb slot_count (get_or l 1 0)) u) ∙ h))

@@ -3,6 +3,7 @@ use mathlib.Core.Path.{◌≡◌, refl, sym, ◌∙◌, ap}
 use mathlib.Core.Bool.{Bool, true, false, cond, true≢false}
 use mathlib.Core.List.{List}
 use Prim.Native.Nat.{ℕ, ◌+◌, ◌≤◌, max}
+use mathlib.Core.Logic.{◌⊎◌, inl, inr}
 use lib.Dec.{eqb}
 use borrow.Author.Tests.{eq-eqb, ne_eqb}
 use lib.ListN.{length}
@@ -23,10 +24,10 @@ use Rattle.state.specs.Words.{status_in, status_of, stamped, with_status, free_r
 use Rattle.rules.specs.Command.{Command, write, commit, stat, close, end_job, Out, refuse, placed, commit_fits, state_bits}
 use Rattle.rules.specs.Flash.{on_flash, write_flash, with_image, with_hash, with_phase, verify_job, update_job, commit_kind, commit_flash, closed_flash, close_flash, flash_length, stat_flash, verdict, job_ends}
 use Rattle.rules.specs.Session.{on_row}
-use Rattle.response_types.specs.declared.Said.{Said}
+use Rattle.protocol.specs.declared.Code.{Code}
+use Rattle.std.specs.Prelude.{Ok, Err}
 use Rattle.response_types.specs.After.{reply_of}
-use Rattle.session_row.specs.declared.Written.{Written}
-use Rattle.session_row.specs.Write.{written, written_has, said_by, length_by, region_by, table_by}
+use Rattle.session_row.specs.Write.{Written, written, written_has, said_by, length_by, region_by, table_by}
 use Rattle.session_row.specs.OnRow.{row_read, does, refuses, with, put-flash, row_kept, row-freed}
 use Rattle.session_flash.specs.Jobs.{startable_in, started, updated_by, closed_phase}
 
@@ -37,6 +38,15 @@ holds_bytes Hash = true
 holds_bytes Verify = false
 holds_bytes Update = false
 holds_bytes Cleanup = false
+
+pub bytes-held : {k : FlashKind} → (k ≡ Image) ⊎ (k ≡ Hash) → holds_bytes k ≡ true
+bytes-held (inl p) = ap holds_bytes p
+bytes-held (inr p) = ap holds_bytes p
+
+pub no-bytes-held : {k : FlashKind} → (k ≡ Verify) ⊎ ((k ≡ Update) ⊎ (k ≡ Cleanup)) → holds_bytes k ≡ false
+no-bytes-held (inl p) = ap holds_bytes p
+no-bytes-held (inr (inl p)) = ap holds_bytes p
+no-bytes-held (inr (inr p)) = ap holds_bytes p
 
 -- ---- on the part
 module _ (t offset : ℕ) (ws : List ℕ) (x : Row) (b : FlashBody) where
@@ -165,28 +175,42 @@ module _ (s : State) (r : ℕ) (e : Entry) (words : (block row_words r).get s.se
     write-d5 p = part-refuses (write offset ws) not_supported (write-none t offset ws (row_read r e s) s.flash_group (kind_of e.blob) p)
 
     -- into a region l of the flash that has `len` bytes; `put` puts another region and length in their place
-    pub write-is : (capacity : ℕ) (l : List ℕ) (len : ℕ) (put : List ℕ → ℕ → FlashBody) (w : Written) (said : Said) (table l' : List ℕ) (len' : ℕ) → put l len ≡ s.flash_group
-        → on_flash (kind_of e.blob) t (write offset ws) (row_read r e s) s.flash_group ≡ placed capacity len offset (length ws) (row_read r e s) s.flash_group
-        (done, (stamped t (row_read r e s), put (sets l offset ws) (max len (offset + length ws))))
-        → length l ≡ capacity → w ≡ written (length l) len offset (length ws) → said ≡ said_by w → table ≡ table_by w r (words_of (lifted e t)) s.sessions.table
-        → l' ≡ region_by w offset ws l → len' ≡ length_by w len
-        → (reply_of said answer, after table (put l' len')) ≡ on_row r t (write offset ws) s
-    write-is capacity l len put w said table l' len' same h size pw ps pt pl pn =
-        (λ i. (reply_of (ps i) answer, after (pt i) (put (pl i) (pn i))))
-        ∙ ap Left (pw ∙ ap (λ (m : ℕ). written m len offset (length ws)) size)
-        ∙ written_has capacity len offset (length ws) (row_read r e s) s.flash_group accepted (λ (y : Written) (o : Out FlashBody). on_flash (kind_of e.blob) t (write offset ws)
-        (row_read r e s) s.flash_group ≡ o → Left y ≡ on_row r t (write offset ws) s)
-        (λ (p : offset ≤ len) (q : offset + length ws ≤ capacity) (u : on_flash (kind_of e.blob) t (write offset ws) (row_read r e s) s.flash_group ≡
-        accepted). part-does (write offset ws) done (lifted e t) _ _ _ u refl refl)
-        (λ (code : ℕ) (u : on_flash (kind_of e.blob) t (write offset ws) (row_read r e s) s.flash_group ≡ refuse code (row_read r e s) s.flash_group).
-        ap (λ (y : FlashBody). (refused code, after s.sessions.table y)) same ∙ part-refuses (write offset ws) code u)
-        h
-      where
-        accepted : Out FlashBody
-        accepted = (done, (stamped t (row_read r e s), put (sets l offset ws) (max len (offset + length ws))))
+    module _ (capacity : ℕ) (l : List ℕ) (len : ℕ) (put : List ℕ → ℕ → FlashBody) (same : put l len ≡ s.flash_group)
+        (h : on_flash (kind_of e.blob) t (write offset ws) (row_read r e s) s.flash_group ≡ placed capacity len offset (length ws) (row_read r e s) s.flash_group
+        (done, (stamped t (row_read r e s), put (sets l offset ws) (max len (offset + length ws)))))
+        (size : length l ≡ capacity) where
+      accepted : Out FlashBody
+      accepted = (done, (stamped t (row_read r e s), put (sets l offset ws) (max len (offset + length ws))))
 
-        Left : Written → Reply × State
-        Left y = (reply_of (said_by y) answer, after (table_by y r (words_of (lifted e t)) s.sessions.table) (put (region_by y offset ws l) (length_by y len)))
+      -- what the code leaves, where the Write comes to y
+      abbrev Left : Written → Reply × State
+      Left y = (reply_of (said_by y) answer, after (table_by y r (words_of (lifted e t)) s.sessions.table) (put (region_by y offset ws l) (length_by y len)))
+
+      gives : (w : Written) → w ≡ written (length l) len offset (length ws) → Left w ≡ on_row r t (write offset ws) s
+      unfolding accepted
+      gives w pw =
+          ap Left (pw ∙ ap (λ (m : ℕ). written m len offset (length ws)) size)
+          ∙ written_has capacity len offset (length ws) (row_read r e s) s.flash_group accepted (λ (y : Written) (o : Out FlashBody). on_flash (kind_of e.blob) t (write offset ws)
+          (row_read r e s) s.flash_group ≡ o → Left y ≡ on_row r t (write offset ws) s)
+          (λ (p : offset ≤ len) (q : offset + length ws ≤ capacity) (u : on_flash (kind_of e.blob) t (write offset ws) (row_read r e s) s.flash_group ≡
+          accepted). part-does (write offset ws) done (lifted e t) _ _ _ u refl refl)
+          (λ (code : ℕ) (u : on_flash (kind_of e.blob) t (write offset ws) (row_read r e s) s.flash_group ≡ refuse code (row_read r e s) s.flash_group).
+          ap (λ (y : FlashBody). (refused code, after s.sessions.table y)) same ∙ part-refuses (write offset ws) code u)
+          h
+
+      module _ (w : Written) (table l' : List ℕ) (pw : w ≡ written (length l) len offset (length ws)) (pl : l' ≡ region_by w offset ws l)
+          (pt : table ≡ table_by w r (words_of (lifted e t)) s.sessions.table) where
+        pub write-refused : (code : Code) → w ≡ Err code → (refused code.0, after table (put l' len)) ≡ on_row r t (write offset ws) s
+        write-refused code q =
+            let bytes : l' ≡ l = pl ∙ ap (λ (y : Written). region_by y offset ws l) q in
+            let rows : table ≡ s.sessions.table = pt ∙ ap (λ (y : Written). table_by y r (words_of (lifted e t)) s.sessions.table) q in
+            (λ i. (refused code.0, after (rows i) (put (bytes i) len))) ∙ ap Left (sym q) ∙ gives w pw
+
+        pub write-accepted : (n : ℕ) → w ≡ Ok n → (done, after table (put l' n)) ≡ on_row r t (write offset ws) s
+        write-accepted n q =
+            let bytes : l' ≡ sets l offset ws = pl ∙ ap (λ (y : Written). region_by y offset ws l) q in
+            let rows : table ≡ (block row_words r).put (words_of (lifted e t)) s.sessions.table = pt ∙ ap (λ (y : Written). table_by y r (words_of (lifted e t)) s.sessions.table) q in
+            (λ i. (done, after (rows i) (put (bytes i) n))) ∙ ap Left (sym q) ∙ gives w pw
 
   -- Commit
   module _ (len rest : ℕ) where

@@ -1,7 +1,7 @@
-// The commands on the flash session, whose row r the code has read as e.
+// The commands on the flash session, whose row r the code has read as e. A refusal changes nothing.
 #![tactic(auto)]
 
-ghost use Rattle.std.specs.Prelude.{◌≡◌, cond, List, ℕ, ◌<◌, length, replicate};
+ghost use Rattle.std.specs.Prelude.{◌≡◌, List, ℕ, ◌<◌, length, replicate};
 ghost use Rattle.protocol.specs.Numbers.{image_size, hash_size, sixteen_bits};
 ghost use Rattle.state.specs.declared.row.Place.TheVariants.{AtFlash};
 ghost use Rattle.state.specs.State.{place_of, state_of};
@@ -9,7 +9,7 @@ ghost use Rattle.state.specs.Entry.{words_of, lifted};
 ghost use Rattle.rules.specs.Command.{write, commit, stat, close, end_job};
 ghost use Rattle.rules.specs.Flash.{flash_length, verdict};
 ghost use Rattle.rules.specs.Session.{on_row};
-ghost use Rattle.response_types.specs.After.{after_act, after_said};
+ghost use Rattle.response_types.specs.After.{after_said};
 ghost use Rattle.state.specs.Lent.{ImageLent, HashLent};
 ghost use Rattle.session_row.specs.Lent.{RowIs};
 ghost use Rattle.session_row.specs.Write.{written, region_by, table_by};
@@ -17,11 +17,11 @@ ghost use Rattle.session_flash.specs.Jobs.{startable_in, started, updated_by, cl
 
 use memory_copy::clear_at;
 use protocol::{Code, FlashKind};
-use response_types::{Act, Said};
-use session_row::{Written, commit_fits, state_bits, write_region, write_row_if};
+use response_types::Said;
+use session_row::{commit_fits, state_bits, write_region};
 use state::mask::clear_bit;
 use state::row::{Entry, clear_row, kind_of, write_row};
-use state::values::{emptied, with_phase};
+use state::values::empty_flash;
 use state::{Control, HASH_SIZE, IMAGE_SIZE, Phase, Status};
 
 // A Write into a region that has `len` bytes so far: the image or the hash. The row's stamp is lifted if it is accepted.
@@ -34,19 +34,19 @@ fn write_whole(
     clock: u32,
     offset: u32,
     bytes: &[u8],
-) -> Written
+) -> Result<u32, Code>
     requires { RowIs table.old r e × (length region.old < sixteen_bits) }
     ensures { (result ≡ written (length region.old) len offset (length bytes.now)) × ((region.new ≡ region_by result offset bytes.now region.old) × (table.new ≡ table_by result r (words_of (lifted e clock)) table.old)) }
 {
     let capacity = region.len();
-    let w = write_region(region, 0, capacity, len, offset, bytes);
-    write_row_if(table, r, e.lifted(clock), w);
-    w
+    let written = write_region(region, 0, capacity, len, offset, bytes)?;
+    write_row(table, r, e.lifted(clock));
+    Ok(written)
 }
 
 // Write, to the image or the hash.
 pub fn write(
-    control: Control,
+    control: &mut Control,
     table: &mut [u32],
     image: &mut [u8],
     hash: &mut [u8],
@@ -55,32 +55,22 @@ pub fn write(
     clock: u32,
     offset: u32,
     bytes: &[u8],
-) -> Act
+) -> Result<Said, Code>
     requires { RowIs table.old r e × ((place_of e.blob ≡ AtFlash) × (ImageLent image.old × HashLent hash.old)) }
-    ensures { (names committed staged answer : List ℕ) → after_act result table.new names committed staged image.new hash.new answer ≡ on_row r clock (write offset bytes.now) (state_of control table.old names committed staged image.old hash.old) }
+    ensures { (names committed staged answer : List ℕ) → after_said result control.new table.new names committed staged image.new hash.new answer ≡ on_row r clock (write offset bytes.now) (state_of control.old table.old names committed staged image.old hash.old) }
 {
-    let mut next = control;
-    let kind = kind_of(e.blob);
-    match kind {
+    match kind_of(e.blob) {
         FlashKind::Image => {
-            let w = write_whole(table, image, control.image_len, r, e, clock, offset, bytes);
-            next.image_len = w.length(control.image_len);
-            Act {
-                said: w.said(),
-                control: next,
-            }
+            let len = control.image_len;
+            control.image_len = write_whole(table, image, len, r, e, clock, offset, bytes)?;
+            Ok(Said::Done)
         }
         FlashKind::Hash => {
-            let w = write_whole(table, hash, control.hash_len, r, e, clock, offset, bytes);
-            next.hash_len = w.length(control.hash_len);
-            Act {
-                said: w.said(),
-                control: next,
-            }
+            let len = control.hash_len;
+            control.hash_len = write_whole(table, hash, len, r, e, clock, offset, bytes)?;
+            Ok(Said::Done)
         }
-        FlashKind::Verify => Act::refused(Code::NOT_SUPPORTED, control),
-        FlashKind::Update => Act::refused(Code::NOT_SUPPORTED, control),
-        FlashKind::Cleanup => Act::refused(Code::NOT_SUPPORTED, control),
+        FlashKind::Verify | FlashKind::Update | FlashKind::Cleanup => Err(Code::NOT_SUPPORTED),
     }
 }
 
@@ -91,13 +81,6 @@ pub fn clear_flash(image: &mut [u8], hash: &mut [u8])
 {
     clear_at(image, 0, IMAGE_SIZE);
     clear_at(hash, 0, HASH_SIZE)
-}
-
-// The one phase or the other.
-fn phase_if(on: bool, phase: Phase, other: Phase) -> Phase
-    ensures { result ≡ cond on phase other }
-{
-    if on { phase } else { other }
 }
 
 // A job can start where none was tried or the last one failed.
@@ -121,7 +104,7 @@ fn started(e: Entry) -> Entry
 
 // Commit starts the job of verify or update, or cleans up.
 pub fn commit(
-    control: Control,
+    control: &mut Control,
     table: &mut [u32],
     image: &mut [u8],
     hash: &mut [u8],
@@ -130,30 +113,31 @@ pub fn commit(
     clock: u32,
     len: u8,
     rest: usize,
-) -> Act
+) -> Result<Said, Code>
     requires { RowIs table.old r e × ((place_of e.blob ≡ AtFlash) × (ImageLent image.old × HashLent hash.old)) }
-    ensures { (names committed staged answer : List ℕ) → after_act result table.new names committed staged image.new hash.new answer ≡ on_row r clock (commit len rest) (state_of control table.old names committed staged image.old hash.old) }
+    ensures { (names committed staged answer : List ℕ) → after_said result control.new table.new names committed staged image.new hash.new answer ≡ on_row r clock (commit len rest) (state_of control.old table.old names committed staged image.old hash.old) }
 {
     if !commit_fits(len, rest) {
-        return Act::refused(Code::INVALID, control);
+        return Err(Code::INVALID);
     }
-    let kind = kind_of(e.blob);
-    let phase = control.phase;
-    match kind {
-        FlashKind::Image => Act::refused(Code::NOT_SUPPORTED, control),
-        FlashKind::Hash => Act::refused(Code::NOT_SUPPORTED, control),
+    match kind_of(e.blob) {
+        FlashKind::Image | FlashKind::Hash => Err(Code::NOT_SUPPORTED),
         FlashKind::Verify => {
             write_row(table, r, started(e).lifted(clock));
-            Act::done(with_phase(control, phase_if(startable(e), Phase::Uploading, phase)))
+            if startable(e) {
+                control.phase = Phase::Uploading;
+            }
+            Ok(Said::Done)
         }
         FlashKind::Update => {
             write_row(table, r, started(e).lifted(clock));
-            Act::done(control)
+            Ok(Said::Done)
         }
         FlashKind::Cleanup => {
             clear_flash(image, hash);
             write_row(table, r, e.with_status(Status::SUCCEEDED).lifted(clock));
-            Act::done(emptied(control))
+            empty_flash(control);
+            Ok(Said::Done)
         }
     }
 }
@@ -162,55 +146,46 @@ pub fn commit(
 fn is_updated(kind: FlashKind, status: u32) -> bool
     ensures { result ≡ updated_by kind status }
 {
-    match kind {
-        FlashKind::Image => false,
-        FlashKind::Hash => false,
-        FlashKind::Verify => false,
-        FlashKind::Update => status == Status::SUCCEEDED,
-        FlashKind::Cleanup => false,
-    }
+    matches!(kind, FlashKind::Update) & (status == Status::SUCCEEDED)
 }
 
 // The phase after the Close of a session whose job has this status.
 fn closed_phase(kind: FlashKind, status: u32, phase: Phase) -> Phase
     ensures { result ≡ closed_phase kind status phase }
 {
-    let failed = phase_if(status == Status::FAILED, Phase::Uploading, phase);
     match kind {
-        FlashKind::Image => phase,
-        FlashKind::Hash => phase,
-        FlashKind::Verify => phase_if(status == Status::SUCCEEDED, Phase::Verified, failed),
-        FlashKind::Update => failed,
-        FlashKind::Cleanup => phase,
+        FlashKind::Verify if status == Status::SUCCEEDED => Phase::Verified,
+        FlashKind::Verify | FlashKind::Update if status == Status::FAILED => Phase::Uploading,
+        _ => phase,
     }
 }
 
 // The row is freed, and the phase follows the job.
 pub fn close(
-    control: Control,
+    control: &mut Control,
     table: &mut [u32],
     image: &mut [u8],
     hash: &mut [u8],
     r: usize,
     e: Entry,
-) -> Act
+) -> Result<Said, Code>
     requires { RowIs table.old r e × ((place_of e.blob ≡ AtFlash) × (ImageLent image.old × HashLent hash.old)) }
-    ensures { (clock : ℕ) (names committed staged answer : List ℕ) → after_act result table.new names committed staged image.new hash.new answer ≡ on_row r clock close (state_of control table.old names committed staged image.old hash.old) }
+    ensures { (clock : ℕ) (names committed staged answer : List ℕ) → after_said result control.new table.new names committed staged image.new hash.new answer ≡ on_row r clock close (state_of control.old table.old names committed staged image.old hash.old) }
 {
     let status = e.status();
     if status == Status::RUNNING {
-        return Act::refused(Code::BUSY, control);
+        return Err(Code::BUSY);
     }
     clear_row(table, r);
-    let mut next = control;
-    next.rows = clear_bit(control.rows, r);
+    control.rows = clear_bit(control.rows, r);
     let kind = kind_of(e.blob);
     if is_updated(kind, status) {
         clear_flash(image, hash);
-        return Act::done(emptied(next));
+        empty_flash(control);
+        return Ok(Said::Done);
     }
-    let phase = control.phase;
-    Act::done(with_phase(next, closed_phase(kind, status, phase)))
+    control.phase = closed_phase(kind, status, control.phase);
+    Ok(Said::Done)
 }
 
 // The length of what a flash name holds.
@@ -220,21 +195,25 @@ pub fn flash_length(kind: FlashKind, control: Control) -> u32
     match kind {
         FlashKind::Image => control.image_len,
         FlashKind::Hash => control.hash_len,
-        FlashKind::Verify => 0,
-        FlashKind::Update => 0,
-        FlashKind::Cleanup => 0,
+        FlashKind::Verify | FlashKind::Update | FlashKind::Cleanup => 0,
     }
 }
 
 // SessionStat.
-pub fn stat(control: Control, table: &mut [u32], r: usize, e: Entry, clock: u32) -> Said
+pub fn stat(
+    control: Control,
+    table: &mut [u32],
+    r: usize,
+    e: Entry,
+    clock: u32,
+) -> Result<Said, Code>
     requires { RowIs table.old r e × (place_of e.blob ≡ AtFlash) }
     ensures { (names committed staged image hash answer : List ℕ) → after_said result control table.new names committed staged image hash answer ≡ on_row r clock stat (state_of control table.old names committed staged image hash) }
 {
     let size = flash_length(kind_of(e.blob), control);
     let state = state_bits(e);
     write_row(table, r, e.lifted(clock));
-    Said::Stat { state, size }
+    Ok(Said::Stat { state, size })
 }
 
 // The status that an outcome gives.
@@ -249,13 +228,19 @@ fn verdict(good: bool) -> u32
 }
 
 // A job's outcome; no stamp changes.
-pub fn end_job(control: Control, table: &mut [u32], r: usize, e: Entry, good: bool) -> Said
+pub fn end_job(
+    control: Control,
+    table: &mut [u32],
+    r: usize,
+    e: Entry,
+    good: bool,
+) -> Result<Said, Code>
     requires { RowIs table.old r e × (place_of e.blob ≡ AtFlash) }
     ensures { (clock : ℕ) (names committed staged image hash answer : List ℕ) → after_said result control table.new names committed staged image hash answer ≡ on_row r clock (end_job good) (state_of control table.old names committed staged image hash) }
 {
     if e.status() == Status::RUNNING {
         write_row(table, r, e.with_status(verdict(good)));
-        return Said::Done;
+        return Ok(Said::Done);
     }
-    Said::Refused(Code::NOT_SUPPORTED)
+    Err(Code::NOT_SUPPORTED)
 }

@@ -8,18 +8,18 @@ use Rattle.session_by_id.proofs.end_job.Goals as goal
 
 pub read_row-e-requires : goal.read_row-e-requires
 read_row-e-requires c =
-    (c.requires, row_low c.find_row-found.ensures c.in-At.is)
+    (c.requires, row_low c.find_row.ensures c.in-Some.is)
 
 pub end_job-requires : goal.end_job-requires
 end_job-requires c =
-    (row_is c.find_row-found.ensures c.in-At.is c.requires c.read_row-e.ensures, found-flash c.find_row-found.ensures c.in-At.is c.read_row-e.ensures)
+    (row_is c.find_row.ensures c.in-Some.is c.requires c.read_row-e.ensures, found-flash c.find_row.ensures c.in-Some.is c.read_row-e.ensures)
 
-pub returns-in-At : goal.returns-in-At
-returns-in-At c =
+pub returns : goal.returns
+returns c =
     let a = c.args in
-    λ (t : ℕ) (n m g im h x : List ℕ). of_row (state_of a.control a.table.now n m g im h) t (end_job a.good) c.find_row-found.ensures c.in-At.is (c.end_job.ensures t n m g im h x)
+    λ (t : ℕ) (n m g im h x : List ℕ). of_row (state_of a.control a.table.now n m g im h) t (end_job a.good) c.find_row.ensures c.in-Some.is (c.end_job.ensures t n m g im h x)
 
-pub returns-in-Nothing : goal.returns-in-Nothing
-returns-in-Nothing c =
+pub returns-in_default : goal.returns-in_default
+returns-in_default c =
     let a = c.args in
-    λ (t : ℕ) (n m g im h x : List ℕ). of_none (state_of a.control a.table.now n m g im h) t (end_job a.good) c.find_row-found.ensures c.in-Nothing.is
+    λ (t : ℕ) (n m g im h x : List ℕ). of_none (state_of a.control a.table.now n m g im h) t (end_job a.good) c.find_row.ensures c.in_default.is

@@ -13,13 +13,13 @@ use Rattle.state.specs.declared.row.Wanted.TheVariants.{Id}
 use Rattle.session_by_id.proofs.read.Goals as goal
 
 pub read_row-e-requires : goal.read_row-e-requires
-read_row-e-requires c = (c.requires.0, row_low c.find_row-found.ensures c.in-At.is)
+read_row-e-requires c = (c.requires.0, row_low c.find_row.ensures c.in-Some.is)
 
 pub read-requires : goal.read-requires
 read-requires c =
-    let on = on-slot (sym c.place-place.ensures ∙ c.in-AtSlot.is) in
+    let on = on-slot (sym c.place.ensures ∙ c.in-AtSlot.is) in
     let k = c.requires.1.1.1.1 c.in-AtSlot.k on.slot-low in
-    (row_is c.find_row-found.ensures c.in-At.is c.requires.0 c.read_row-e.ensures, (on, (c.requires.1.0, (c.requires.1.1.0, (c.requires.1.1.1.0, k)))))
+    (row_is c.find_row.ensures c.in-Some.is c.requires.0 c.read_row-e.ensures, (on, (c.requires.1.0, (c.requires.1.1.0, (c.requires.1.1.1.0, k)))))
 
 pub returns-in-AtSlot : goal.returns-in-AtSlot
 returns-in-AtSlot c =
@@ -28,8 +28,8 @@ returns-in-AtSlot c =
       did.0,
       λ (n im h : List ℕ).
           let s = (state_of c.args.control c.args.table.now n c.args.committed.now c.args.staged.now im h) in
-          let q : on_row c.in-At.r a.clock (read a.offset a.count) s ≡ on_session (Id a.id) a.clock (read a.offset a.count) s =
-          of_row s a.clock (read a.offset a.count) c.find_row-found.ensures c.in-At.is refl in
+          let q : on_row c.in-Some.r a.clock (read a.offset a.count) s ≡ on_session (Id a.id) a.clock (read a.offset a.count) s =
+          of_row s a.clock (read a.offset a.count) c.find_row.ensures c.in-Some.is refl in
           ((did.1 n im h).0 ∙ q, (did.1 n im h).1 ∙ ap (λ (y : Reply × State). fields_laid y.0 a.answer.now) q),
     )
 
@@ -41,15 +41,15 @@ returns-in-AtFlash c =
       λ (n im h : List ℕ).
           let s = (state_of c.args.control c.args.table.now n c.args.committed.now c.args.staged.now im h) in
           kept-answer s (on_session (Id a.id) a.clock (read a.offset a.count) s) not_supported a.answer.now
-          (of_row s a.clock (read a.offset a.count) c.find_row-found.ensures c.in-At.is
-          (flash-read s c.in-At.r r.result r.ensures (sym c.place-place.ensures ∙ c.in-AtFlash.is) a.clock a.offset a.count)),
+          (of_row s a.clock (read a.offset a.count) c.find_row.ensures c.in-Some.is
+          (flash-read s c.in-Some.r r.result r.ensures (sym c.place.ensures ∙ c.in-AtFlash.is) a.clock a.offset a.count)),
     )
 
-pub returns-in-Nothing : goal.returns-in-Nothing
-returns-in-Nothing c =
+pub returns-in_default : goal.returns-in_default
+returns-in_default c =
     let a = c.args in (
       omega arith,
       λ (n im h : List ℕ).
           let s = (state_of c.args.control c.args.table.now n c.args.committed.now c.args.staged.now im h) in
-          kept-answer s (on_session (Id a.id) a.clock (read a.offset a.count) s) not_found a.answer.now (of_none s a.clock (read a.offset a.count) c.find_row-found.ensures c.in-Nothing.is),
+          kept-answer s (on_session (Id a.id) a.clock (read a.offset a.count) s) not_found a.answer.now (of_none s a.clock (read a.offset a.count) c.find_row.ensures c.in_default.is),
     )

@@ -5,13 +5,13 @@ use Rattle.session_by_id.proofs.Laws.{of_row, of_none, meta-is}
 use Rattle.state.specs.State.{state_of}
 use Rattle.session_by_id.proofs.write_meta.Goals as goal
 
-pub returns-in-At : goal.returns-in-At
-returns-in-At c =
+pub returns-in-Some : goal.returns-in-Some
+returns-in-Some c =
     let a = c.args in
-    λ (t : ℕ) (n m g im h x : List ℕ). of_row (state_of a.control a.table.now n m g im h) t write_meta c.find_row-found.ensures c.in-At.is
-    (meta-is (state_of a.control a.table.now n m g im h) c.in-At.field-0 t)
+    λ (t : ℕ) (n m g im h x : List ℕ). of_row (state_of a.control a.table.now n m g im h) t write_meta c.find_row.ensures c.in-Some.is
+    (meta-is (state_of a.control a.table.now n m g im h) _ t)
 
-pub returns-in-Nothing : goal.returns-in-Nothing
-returns-in-Nothing c =
+pub returns-in-None : goal.returns-in-None
+returns-in-None c =
     let a = c.args in
-    λ (t : ℕ) (n m g im h x : List ℕ). of_none (state_of a.control a.table.now n m g im h) t write_meta c.find_row-found.ensures c.in-Nothing.is
+    λ (t : ℕ) (n m g im h x : List ℕ). of_none (state_of a.control a.table.now n m g im h) t write_meta c.find_row.ensures c.in-None.is

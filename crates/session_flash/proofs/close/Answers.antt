@@ -1,7 +1,6 @@
 -- `close`: refused while the job runs; after an update; else with the phase that follows.
 use Rattle.std.proofs.Common.{◌≡◌, sym, ◌∙◌, ap, ap₂, List, ℕ}
 use Rattle.protocol.specs.Frame.{done}
-use Rattle.response_types.specs.Laws.{refused-leaves, done-leaves}
 use Rattle.rules.specs.Flash.{with_phase}
 use Rattle.session_flash.proofs.Laws.{close-c0, close-is}
 use Rattle.session_flash.specs.Jobs.{updated_by, closed_phase}
@@ -16,36 +15,32 @@ pub returns-then-status-eq-RUNNING : goal.returns-then-status-eq-RUNNING
 returns-then-status-eq-RUNNING c =
     let a = c.args in
     λ (t : ℕ) (n m g x : List ℕ).
-    refused-leaves x c.refused.ensures
-    (close-c0 ((let a = c.args in state_of a.control a.table.now n m g a.image.now a.hash.now)) a.r a.e c.requires.0.words_of_row c.requires.1.0 t
+    (close-c0 (state_of a.control.now a.table.now n m g a.image.now a.hash.now) a.r a.e c.requires.0.words_of_row c.requires.1.0 t
     (sym c.status-status.ensures ∙ c.if-status-eq-RUNNING.true))
 
 pub returns-then-is_updated : goal.returns-then-is_updated
 returns-then-is_updated c =
     let a = c.args in
     λ (t : ℕ) (n m g x : List ℕ).
-    done-leaves x c.done.ensures
     (ap (λ (v : Control). (done, state_of v c.clear_row.new.table n m g c.clear_flash.new.image c.clear_flash.new.hash))
-    c.emptied.ensures
-    ∙ close-is ((let a = c.args in state_of a.control a.table.now n m g a.image.now a.hash.now)) a.r a.e c.requires.0.words_of_row c.requires.1.0 t
-    c.clear_row.new.table c.clear_bit.result _
+    c.empty_flash.ensures
+    ∙ close-is (state_of a.control.now a.table.now n m g a.image.now a.hash.now) a.r a.e c.requires.0.words_of_row c.requires.1.0 t
+    c.clear_row.new.table c.clear_bit-control.result _
     (record { phase = Idle; image = c.clear_flash.new.image; hash = c.clear_flash.new.hash; image_len = 0; hash_len = 0 })
     (λ (z : status_in a.e.word ≡ 1). c.if-status-eq-RUNNING.false (c.status-status.ensures ∙ z))
     (sym (c.is_updated.ensures ∙ ap₂ updated_by c.kind_of-kind.ensures c.status-status.ensures) ∙ c.if-is_updated.true)
-    c.clear_row.ensures c.clear_bit.ensures
+    c.clear_row.ensures c.clear_bit-control.ensures
     (λ i. record { phase = Idle; image = c.clear_flash.ensures.0 i; hash = c.clear_flash.ensures.1 i; image_len = 0; hash_len = 0 }))
 
 pub returns : goal.returns
 returns c =
     let a = c.args in
     λ (t : ℕ) (n m g x : List ℕ).
-    let s : State = (let a = c.args in state_of a.control a.table.now n m g a.image.now a.hash.now) in
-    done-leaves x c.done-2.ensures
-    (ap (λ (v : Control). (done, state_of v c.clear_row.new.table n m g a.image.now a.hash.now)) c.with_phase.ensures
-    ∙ close-is s a.r a.e c.requires.0.words_of_row c.requires.1.0 t c.clear_row.new.table c.clear_bit.result _
-    (with_phase c.closed_phase.result s.flash_group)
+    let s : State = state_of a.control.now a.table.now n m g a.image.now a.hash.now in
+    (close-is s a.r a.e c.requires.0.words_of_row c.requires.1.0 t c.clear_row.new.table c.clear_bit-control.result _
+    (with_phase c.closed_phase-control.result s.flash_group)
     (λ (z : status_in a.e.word ≡ 1). c.if-status-eq-RUNNING.false (c.status-status.ensures ∙ z))
     (sym (c.is_updated.ensures ∙ ap₂ updated_by c.kind_of-kind.ensures c.status-status.ensures) ∙ c.if-is_updated.false)
-    c.clear_row.ensures c.clear_bit.ensures
-    (ap (λ (p : Phase). with_phase p s.flash_group) (c.closed_phase.ensures ∙ λ i. closed_phase (c.kind_of-kind.ensures i)
-    (c.status-status.ensures i) a.control.phase)))
+    c.clear_row.ensures c.clear_bit-control.ensures
+    (ap (λ (p : Phase). with_phase p s.flash_group) (c.closed_phase-control.ensures ∙ λ i. closed_phase (c.kind_of-kind.ensures i)
+    (c.status-status.ensures i) a.control.now.phase)))

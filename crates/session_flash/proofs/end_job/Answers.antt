@@ -12,7 +12,7 @@ use Rattle.session_flash.proofs.end_job.Goals as goal
 pub returns-then-status-eq-RUNNING : goal.returns-then-status-eq-RUNNING
 returns-then-status-eq-RUNNING c =
     let a = c.args in
-    λ (t : ℕ) (n m g im h x : List ℕ). outcome-is ((let a = c.args in state_of a.control a.table.now n m g im h)) a.r a.e c.requires.0.words_of_row c.requires.1 t a.good
+    λ (t : ℕ) (n m g im h x : List ℕ). outcome-is (state_of a.control a.table.now n m g im h) a.r a.e c.requires.0.words_of_row c.requires.1 t a.good
     c.write_row.new.table (sym c.status.ensures ∙ c.if-status-eq-RUNNING.true)
     (c.write_row.ensures ∙ ap (λ (y : Entry). (block row_words a.r).put (words_of y) a.table.now)
     (c.with_status.ensures ∙ ap (status_set a.e) c.verdict.ensures.0))
@@ -20,5 +20,5 @@ returns-then-status-eq-RUNNING c =
 pub returns : goal.returns
 returns c =
     let a = c.args in
-    λ (t : ℕ) (n m g im h x : List ℕ). outcome-d5 ((let a = c.args in state_of a.control a.table.now n m g im h)) a.r a.e c.requires.0.words_of_row c.requires.1 t a.good
+    λ (t : ℕ) (n m g im h x : List ℕ). outcome-d5 (state_of a.control a.table.now n m g im h) a.r a.e c.requires.0.words_of_row c.requires.1 t a.good
     (λ (z : status_in a.e.word ≡ 1). c.if-status-eq-RUNNING.false (c.status.ensures ∙ z))

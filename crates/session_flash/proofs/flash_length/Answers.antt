@@ -1,7 +1,18 @@
 -- `flash_length`: one kind after another.
-use Rattle.std.proofs.Common.{List, ℕ}
+use Rattle.std.proofs.Common.{◌≡◌, List, ℕ, inl, inr}
+use Rattle.std.specs.Prelude.{◌⊎◌}
+use Rattle.protocol.specs.declared.FlashKind.{FlashKind}
+use Rattle.protocol.specs.declared.FlashKind.TheVariants.{Verify, Update, Cleanup}
+use Rattle.state.specs.State.{FlashBody}
 use Rattle.rules.specs.Flash.{flash_length}
 use Rattle.session_flash.proofs.flash_length.Goals as goal
+
+-- verify, update and cleanup hold no bytes
+nothing-held : {k : FlashKind} (b : FlashBody) → (k ≡ Verify) ⊎ ((k ≡ Update) ⊎ (k ≡ Cleanup)) → 0 ≡ flash_length k b
+unfolding flash_length
+nothing-held b (inl p) = rw p
+nothing-held b (inr (inl p)) = rw p
+nothing-held b (inr (inr p)) = rw p
 
 pub returns-in-Image : goal.returns-in-Image
 unfolding flash_length
@@ -12,13 +23,4 @@ unfolding flash_length
 returns-in-Hash c = λ (t n m g im h : List ℕ). rw c.in-Hash.is
 
 pub returns-in-Verify : goal.returns-in-Verify
-unfolding flash_length
-returns-in-Verify c = λ (t n m g im h : List ℕ). rw c.in-Verify.is
-
-pub returns-in-Update : goal.returns-in-Update
-unfolding flash_length
-returns-in-Update c = λ (t n m g im h : List ℕ). rw c.in-Update.is
-
-pub returns-in-Cleanup : goal.returns-in-Cleanup
-unfolding flash_length
-returns-in-Cleanup c = λ (t n m g im h : List ℕ). rw c.in-Cleanup.is
+returns-in-Verify c = λ (t n m g im h : List ℕ). nothing-held _ c.in-Verify.is
