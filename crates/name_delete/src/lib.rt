@@ -1,4 +1,4 @@
-// Delete.
+// Delete. A refusal changes nothing.
 #![tactic(auto)]
 
 ghost use Rattle.std.specs.Prelude.{◌≡◌, List, ℕ, ◌+◌, ◌≤◌, length};
@@ -6,15 +6,14 @@ ghost use Rattle.protocol.specs.Inside.{BlobInside};
 ghost use Rattle.protocol.specs.declared.Blob.TheVariants.{Store};
 ghost use Rattle.state.specs.State.{state_of};
 ghost use Rattle.state.specs.Lent.{TableLent, NamesLent, RegionsLent};
-ghost use Rattle.response_types.specs.After.{after_act};
+ghost use Rattle.response_types.specs.After.{after_said};
 ghost use Rattle.rules.specs.Named.{delete_blob};
 
 use lookup::{find_name, find_row};
 use memory_slots::free_slot;
 use protocol::{Blob, Code};
-use response_types::Act;
+use response_types::Said;
 use state::Control;
-use state::mask::Found;
 use state::row::Wanted;
 
 // Delete of a store name, which stands in the message.
@@ -22,44 +21,43 @@ fn delete_store(
     start: usize,
     len: usize,
     message: &[u8],
-    control: Control,
+    control: &mut Control,
     table: &[u32],
     names: &mut [u8],
     committed: &mut [u8],
     staged: &mut [u8],
-) -> Act
+) -> Result<Said, Code>
     requires { (start + len ≤ length message.now) × (TableLent table.now × (NamesLent names.old × (RegionsLent committed.old × RegionsLent staged.old))) }
-    ensures { (image hash answer : List ℕ) → after_act result table.now names.new committed.new staged.new image hash answer ≡ delete_blob (Store start len) message.now (state_of control table.now names.old committed.old staged.old image hash) }
+    ensures { (image hash answer : List ℕ) → after_said result control.new table.now names.new committed.new staged.new image hash answer ≡ delete_blob (Store start len) message.now (state_of control.old table.now names.old committed.old staged.old image hash) }
 {
-    let Found::At(k) = find_name(names, control.slots, message, start, len) else {
-        return Act::refused(Code::NOT_FOUND, control);
+    let Some(k) = find_name(names, control.slots, message, start, len) else {
+        return Err(Code::NOT_FOUND);
     };
-    let Found::Nothing = find_row(table, control.rows, Wanted::OnBlob(k as u32)) else {
-        return Act::refused(Code::BUSY, control);
+    let None = find_row(table, control.rows, Wanted::OnBlob(k as u32)) else {
+        return Err(Code::BUSY);
     };
-    let freed = free_slot(k, control, names, committed, staged);
-    Act::done(freed)
+    free_slot(k, control, names, committed, staged);
+    Ok(Said::Done)
 }
 
 // Delete by what the name names (rule 14.1). A name that is not held has no session, so the slot is looked up before the session.
 pub fn delete(
     blob: Blob,
     message: &[u8],
-    control: Control,
+    control: &mut Control,
     table: &[u32],
     names: &mut [u8],
     committed: &mut [u8],
     staged: &mut [u8],
-) -> Act
+) -> Result<Said, Code>
     requires { BlobInside message.now blob × (TableLent table.now × (NamesLent names.old × (RegionsLent committed.old × RegionsLent staged.old))) }
-    ensures { (image hash answer : List ℕ) → after_act result table.now names.new committed.new staged.new image hash answer ≡ delete_blob blob message.now (state_of control table.now names.old committed.old staged.old image hash) }
+    ensures { (image hash answer : List ℕ) → after_said result control.new table.now names.new committed.new staged.new image hash answer ≡ delete_blob blob message.now (state_of control.old table.now names.old committed.old staged.old image hash) }
 {
     match blob {
         Blob::Store { start, len } => delete_store(
             start, len, message, control, table, names, committed, staged,
         ),
-        Blob::Flash(_) => Act::refused(Code::NOT_SUPPORTED, control),
-        Blob::Base => Act::refused(Code::NOT_SUPPORTED, control),
-        Blob::Unknown => Act::refused(Code::NOT_FOUND, control),
+        Blob::Flash(_) | Blob::Base => Err(Code::NOT_SUPPORTED),
+        Blob::Unknown => Err(Code::NOT_FOUND),
     }
 }

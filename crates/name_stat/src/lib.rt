@@ -1,7 +1,7 @@
 // Stat.
 #![tactic(auto)]
 
-ghost use Rattle.std.specs.Prelude.{◌≡◌, List, ℕ, ◌+◌, ◌<◌, ◌≤◌, length};
+ghost use Rattle.std.specs.Prelude.{◌≡◌, Ok, List, ℕ, ◌+◌, ◌<◌, ◌≤◌, length};
 ghost use Rattle.protocol.specs.Numbers.{row_count};
 ghost use Rattle.protocol.specs.Frame.{reply};
 ghost use Rattle.protocol.specs.Inside.{BlobInside};
@@ -20,27 +20,20 @@ use session_flash::flash_length;
 use session_row::state_bits;
 use session_store::seen_length;
 use state::Control;
-use state::mask::Found;
 use state::row::{Place, Wanted, kind_of, read_row};
 
 // What SessionStat says of row r: the session's state bits, and the size of its view.
 fn stat_row(control: Control, table: &[u32], r: usize) -> Said
     requires { (r < row_count) × TableLent table.now }
-    ensures { (names committed staged image hash answer : List ℕ) → reply_of result answer ≡ reply (stat_row r (state_of control table.now names committed staged image hash)) }
+    ensures { (names committed staged image hash answer : List ℕ) → reply_of (Ok result) answer ≡ reply (stat_row r (state_of control table.now names committed staged image hash)) }
 {
     let e = read_row(table, r);
     let state = state_bits(e);
-    let place = e.place();
-    match place {
-        Place::AtSlot(k) => Said::Stat {
-            state,
-            size: seen_length(control, k, e.writes()),
-        },
-        Place::AtFlash => Said::Stat {
-            state,
-            size: flash_length(kind_of(e.blob), control),
-        },
-    }
+    let size = match e.place() {
+        Place::AtSlot(k) => seen_length(control, k, e.writes()),
+        Place::AtFlash => flash_length(kind_of(e.blob), control),
+    };
+    Said::Stat { state, size }
 }
 
 // Stat of a store name, which stands in the message: an open one as its session sees it, else committed with the committed size.
@@ -51,49 +44,54 @@ fn stat_store(
     control: Control,
     table: &[u32],
     names: &[u8],
-) -> Said
+) -> Result<Said, Code>
     requires { (start + len ≤ length message.now) × (TableLent table.now × NamesLent names.now) }
     ensures { (committed staged image hash answer : List ℕ) → reply_of result answer ≡ stat_blob (Store start len) message.now (state_of control table.now names.now committed staged image hash) }
 {
-    let Found::At(k) = find_name(names, control.slots, message, start, len) else {
-        return Said::Refused(Code::NOT_FOUND);
+    let Some(k) = find_name(names, control.slots, message, start, len) else {
+        return Err(Code::NOT_FOUND);
     };
-    let Found::At(r) = find_row(table, control.rows, Wanted::OnBlob(k as u32)) else {
-        return Said::Stat {
+    let Some(r) = find_row(table, control.rows, Wanted::OnBlob(k as u32)) else {
+        return Ok(Said::Stat {
             state: BlobState::COMMITTED.0,
             size: seen_length(control, k, false),
-        };
+        });
     };
-    stat_row(control, table, r)
+    Ok(stat_row(control, table, r))
 }
 
 // Stat of a flash name, if it is listed.
-fn stat_flash(kind: FlashKind, control: Control, table: &[u32]) -> Said
+fn stat_flash(kind: FlashKind, control: Control, table: &[u32]) -> Result<Said, Code>
     requires { TableLent table.now }
     ensures { (message names committed staged image hash answer : List ℕ) → reply_of result answer ≡ stat_blob (Flash kind) message (state_of control table.now names committed staged image hash) }
 {
-    let phase = control.phase;
-    if !flash_listed(kind, phase) {
-        return Said::Refused(Code::NOT_FOUND);
+    if !flash_listed(kind, control.phase) {
+        return Err(Code::NOT_FOUND);
     }
-    let Found::At(r) = find_row(table, control.rows, Wanted::OnBlob(kind.number())) else {
-        return Said::Stat {
+    let Some(r) = find_row(table, control.rows, Wanted::OnBlob(kind.number())) else {
+        return Ok(Said::Stat {
             state: 0,
             size: flash_length(kind, control),
-        };
+        });
     };
-    stat_row(control, table, r)
+    Ok(stat_row(control, table, r))
 }
 
 // Stat: by what the name names; the base has zeros. No stamp changes.
-pub fn stat(blob: Blob, message: &[u8], control: Control, table: &[u32], names: &[u8]) -> Said
+pub fn stat(
+    blob: Blob,
+    message: &[u8],
+    control: Control,
+    table: &[u32],
+    names: &[u8],
+) -> Result<Said, Code>
     requires { BlobInside message.now blob × (TableLent table.now × NamesLent names.now) }
     ensures { (committed staged image hash answer : List ℕ) → reply_of result answer ≡ stat_blob blob message.now (state_of control table.now names.now committed staged image hash) }
 {
     match blob {
         Blob::Store { start, len } => stat_store(start, len, message, control, table, names),
         Blob::Flash(kind) => stat_flash(kind, control, table),
-        Blob::Base => Said::Stat { state: 0, size: 0 },
-        Blob::Unknown => Said::Refused(Code::NOT_FOUND),
+        Blob::Base => Ok(Said::Stat { state: 0, size: 0 }),
+        Blob::Unknown => Err(Code::NOT_FOUND),
     }
 }

@@ -4,7 +4,6 @@ use Rattle.lookup.specs.Search.{row_in, slot-in, slot-low}
 use Rattle.name_delete.specs.Laws.{delete-none, delete-busy, delete-ok}
 use Rattle.protocol.specs.Frame.{done}
 use Rattle.protocol.specs.Numbers.{slot_count}
-use Rattle.response_types.specs.Laws.{refused-leaves, done-leaves}
 use Rattle.state.specs.State.{State, state_of}
 use Rattle.name_delete.proofs.delete_store.Goals as goal
 
@@ -12,31 +11,30 @@ pub returns-in_default : goal.returns-in_default
 returns-in_default c =
     λ i h x.
     let a = c.args in
-    let s = state_of a.control a.table.now a.names.now a.committed.now a.staged.now i h in
-    refused-leaves x c.refused.ensures (delete-none a.start a.len a.message.now s (slot-in s c.find_name.ensures c.in_default.is))
+    let s = state_of a.control.now a.table.now a.names.now a.committed.now a.staged.now i h in
+    (delete-none a.start a.len a.message.now s (slot-in s c.find_name.ensures c.in_default.is))
 
 pub overflow_cast-k : goal.overflow_cast-k
 overflow_cast-k c =
-    let l : c.in-At.k < slot_count = slot-low c.find_name.ensures c.in-At.is in
+    let l : c.in-Some.k < slot_count = slot-low c.find_name.ensures c.in-Some.is in
     omega arith
 
 pub returns-in_default-find_row : goal.returns-in_default-find_row
 returns-in_default-find_row c =
     λ i h x.
     let a = c.args in
-    let s = state_of a.control a.table.now a.names.now a.committed.now a.staged.now i h in
-    refused-leaves x c.refused-in_default-find_row.ensures
-    (delete-busy a.start a.len a.message.now s c.in-At.k (slot-in s c.find_name.ensures c.in-At.is) _ (row_in s c.find_row.ensures c.in_default-find_row.is))
+    let s = state_of a.control.now a.table.now a.names.now a.committed.now a.staged.now i h in
+    (delete-busy a.start a.len a.message.now s c.in-Some.k (slot-in s c.find_name.ensures c.in-Some.is) _ (row_in s c.find_row.ensures c.in_default-find_row.is))
 
-pub free_slot-freed-requires : goal.free_slot-freed-requires
-free_slot-freed-requires c =
-    (slot-low c.find_name.ensures c.in-At.is, search rules)
+pub free_slot-requires : goal.free_slot-requires
+free_slot-requires c =
+    (slot-low c.find_name.ensures c.in-Some.is, search rules)
 
 pub returns : goal.returns
 returns c =
     λ i h x.
     let a = c.args in
-    let s = state_of a.control a.table.now a.names.now a.committed.now a.staged.now i h in
-    done-leaves x c.done.ensures (ap (λ (y : State). (done, y)) (c.free_slot-freed.ensures a.table.now i h)
-    ∙ delete-ok a.start a.len a.message.now s c.in-At.k (slot-in s c.find_name.ensures c.in-At.is)
-    (row_in s c.find_row.ensures c.in-Nothing.is))
+    let s = state_of a.control.now a.table.now a.names.now a.committed.now a.staged.now i h in
+    (ap (λ (y : State). (done, y)) (c.free_slot.ensures a.table.now i h)
+    ∙ delete-ok a.start a.len a.message.now s c.in-Some.k (slot-in s c.find_name.ensures c.in-Some.is)
+    (row_in s c.find_row.ensures c.in-None.is))

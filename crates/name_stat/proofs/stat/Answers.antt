@@ -12,17 +12,17 @@ stat_store-requires c = ((subst (BlobInside c.args.message.now) c.in-Store.is c.
 pub returns-in-Store : goal.returns-in-Store
 returns-in-Store c =
     λ d g i h x. let a = c.args in c.stat_store.ensures d g i h x ∙ ap
-    (λ (b : Blob). stat_blob b a.message.now ((let a = c.args in state_of a.control a.table.now a.names.now d g i h))) (sym c.in-Store.is)
+    (λ (b : Blob). stat_blob b a.message.now (state_of a.control a.table.now a.names.now d g i h)) (sym c.in-Store.is)
 
 pub returns-in-Flash : goal.returns-in-Flash
 returns-in-Flash c =
     λ d g i h x. let a = c.args in c.stat_flash.ensures a.message.now a.names.now d g i h x ∙ ap
-    (λ (b : Blob). stat_blob b a.message.now ((let a = c.args in state_of a.control a.table.now a.names.now d g i h))) (sym c.in-Flash.is)
+    (λ (b : Blob). stat_blob b a.message.now (state_of a.control a.table.now a.names.now d g i h)) (sym c.in-Flash.is)
 
 pub returns-in-Base : goal.returns-in-Base
 unfolding stat_blob
-returns-in-Base c = λ d g i h _. let a = c.args in ap (λ (b : Blob). stat_blob b a.message.now ((let a = c.args in state_of a.control a.table.now a.names.now d g i h))) (sym c.in-Base.is)
+returns-in-Base c = λ d g i h _. let a = c.args in ap (λ (b : Blob). stat_blob b a.message.now (state_of a.control a.table.now a.names.now d g i h)) (sym c.in-Base.is)
 
 pub returns-in-Unknown : goal.returns-in-Unknown
 unfolding stat_blob
-returns-in-Unknown c = λ d g i h _. let a = c.args in ap (λ (b : Blob). stat_blob b a.message.now ((let a = c.args in state_of a.control a.table.now a.names.now d g i h))) (sym c.in-Unknown.is)
+returns-in-Unknown c = λ d g i h _. let a = c.args in ap (λ (b : Blob). stat_blob b a.message.now (state_of a.control a.table.now a.names.now d g i h)) (sym c.in-Unknown.is)

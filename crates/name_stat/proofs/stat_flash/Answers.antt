@@ -24,7 +24,7 @@ returns-in_default c =
     (ap (λ (b : ℕ). row_found (OnBlob b) s) (sym c.number.ensures) ∙ (row_in s c.find_row.ensures c.in_default.is))
 
 pub stat_row-requires : goal.stat_row-requires
-stat_row-requires c = (row_low c.find_row.ensures c.in-At.is, c.requires)
+stat_row-requires c = (row_low c.find_row.ensures c.in-Some.is, c.requires)
 
 pub returns : goal.returns
 returns c =
@@ -32,5 +32,5 @@ returns c =
     let a = c.args in
     let s = state_of a.control a.table.now n d g i h in
     c.stat_row.ensures n d g i h x
-    ∙ flash-open a.kind m s (sym c.flash_listed.ensures ∙ not-false _ (ap not c.if-not-flash_listed.false)) c.in-At.r
-    (ap (λ (b : ℕ). row_found (OnBlob b) s) (sym c.number.ensures) ∙ (row_in s c.find_row.ensures c.in-At.is))
+    ∙ flash-open a.kind m s (sym c.flash_listed.ensures ∙ not-false _ (ap not c.if-not-flash_listed.false)) c.in-Some.r
+    (ap (λ (b : ℕ). row_found (OnBlob b) s) (sym c.number.ensures) ∙ (row_in s c.find_row.ensures c.in-Some.is))
