@@ -1,5 +1,5 @@
 -- Laws of the list of names. Assumes nothing.
-use Rattle.std.specs.Prelude.{◌≡◌, refl, Bool, true, false, cond, List, [], ◌∷◌, ◌++◌, ℕ, zero, suc, ◌+◌, ◌-◌, ◌≤◌, ◌<◌, eqb, ltb, length, get_or, set}
+use Rattle.std.specs.Prelude.{◌≡◌, Some, None, refl, Bool, true, false, cond, List, [], ◌∷◌, ◌++◌, ℕ, zero, suc, ◌+◌, ◌-◌, ◌≤◌, ◌<◌, eqb, ltb, length, get_or, set}
 use Rattle.std.proofs.Math.Path.{sym}
 use Rattle.std.proofs.Common.{◌∙◌, ap, append-nil, add-zero, add-suc, add-one, arith, length-append, get_or-append-add}
 use Rattle.std.proofs.Math.Decide.{dec_lt}
@@ -21,7 +21,7 @@ use Rattle.state.specs.Soundness.{slot_at}
 use Rattle.rules.specs.Listing.{only, committed_names, flash_names, listed, enumerated}
 use Rattle.rules.specs.Counting.{flash_count}
 use Rattle.rules.proofs.Counting.{committed-count}
-use Rattle.name_list.specs.declared.Listed.TheVariants.{Base, Slot, Flash, Outside}
+use Rattle.name_list.specs.declared.Listed.TheVariants.{Base, Slot, Flash}
 use Rattle.lookup.specs.Search.{Nth}
 use Rattle.name_list.specs.Listed.{flash_at, InStore, listed_reply, flash_kinds, behind, names_from, flash_from}
 use Rattle.rules.specs.Opening.{flash_listed}
@@ -114,7 +114,7 @@ module _ (p : Phase) (b : ℕ) (low : b ≤ cleanup_blob) where
   count-hidden e = rw (more, e, add-one)
 
   module _ (i : ℕ) where
-    pub at_first : flash_listed (kind_of b) p ≡ true → i ≡ 0 → flash_from (behind b) b p i ≡ Flash (kind_of b)
+    pub at_first : flash_listed (kind_of b) p ≡ true → i ≡ 0 → flash_from (behind b) b p i ≡ Some (Flash (kind_of b))
     unfolding flash_from
     at_first e z = rw (more, e, z)
 
@@ -130,7 +130,7 @@ pub none-behind : (p : Phase) (b : ℕ) → cleanup_blob < b → length (names_f
 unfolding names_from
 none-behind p b h = let e : behind b ≡ 0 = omega arith in rw e
 
-pub outside : (p : Phase) (b i : ℕ) → cleanup_blob < b → flash_from (behind b) b p i ≡ Outside
+pub outside : (p : Phase) (b i : ℕ) → cleanup_blob < b → flash_from (behind b) b p i ≡ None
 unfolding flash_from
 outside p b i h = let e : behind b ≡ 0 = omega arith in rw e
 
@@ -140,7 +140,7 @@ from-in-store zero b p i = tt
 from-in-store (suc n) b p i = go (flash_listed (kind_of b) p) (eqb i 0) (from-in-store n (suc b) p (i - 1)) (from-in-store n (suc b) p i)
   where
     go : (x y : Bool) → InStore (flash_from n (suc b) p (i - 1)) → InStore (flash_from n (suc b) p i)
-        → InStore (cond x (cond y (Flash (kind_of b)) (flash_from n (suc b) p (i - 1))) (flash_from n (suc b) p i))
+        → InStore (cond x (cond y (Some (Flash (kind_of b))) (flash_from n (suc b) p (i - 1))) (flash_from n (suc b) p i))
     go true true q r = tt
     go true false q r = q
     go false y q r = r
@@ -154,7 +154,7 @@ from-reply zero b p i names = rw (le-ltb i 0 (omega arith))
 from-reply (suc n) b p i names = go (λ (j : ℕ). from-reply n (suc b) p j names) (flash_listed (kind_of b) p) i
   where
     go : ((j : ℕ) → listed_reply (flash_from n (suc b) p j) names ≡ reply_at (names_from n (suc b) p) j) → (x : Bool) (j : ℕ)
-        → listed_reply (cond x (cond (eqb j 0) (Flash (kind_of b)) (flash_from n (suc b) p (j - 1))) (flash_from n (suc b) p j)) names
+        → listed_reply (cond x (cond (eqb j 0) (Some (Flash (kind_of b))) (flash_from n (suc b) p (j - 1))) (flash_from n (suc b) p j)) names
         ≡ reply_at (only x (flash_name (kind_of b)) ++ names_from n (suc b) p) j
     go more true zero = sym (reply-inside (flash_name (kind_of b) ∷ []) (names_from n (suc b) p) 0 (flash_name (kind_of b)) (omega arith) refl)
     go more true (suc j) =
@@ -175,7 +175,7 @@ module _ (s : State) (i : ℕ) where
   rest : List (List ℕ)
   rest = committed_names slot_count s ++ flash_names s.flash_group.phase
 
-  pub enum-base : i ≡ 0 → listed_reply Base s.store.names ≡ enumerated i s
+  pub enum-base : i ≡ 0 → listed_reply (Some Base) s.store.names ≡ enumerated i s
   unfolding rest
   enum-base e = sym (enumerated-is i s ∙ reply-inside (base ∷ []) rest i base (omega arith) (rw e))
 
@@ -183,7 +183,7 @@ module _ (s : State) (i : ℕ) where
     committed-all : length (committed_names slot_count s) ≡ ones s.store.marks
     committed-all = committed-count slot_count s ∙ ones-in slot_count s.store.marks m
 
-    pub enum-slot : (k : ℕ) → i - 1 < ones s.store.marks → Nth s.store.marks (i - 1) k → listed_reply (Slot k) s.store.names ≡ enumerated i s
+    pub enum-slot : (k : ℕ) → i - 1 < ones s.store.marks → Nth s.store.marks (i - 1) k → listed_reply (Some (Slot k)) s.store.names ≡ enumerated i s
     unfolding rest
     enum-slot k l p =
         sym (enumerated-is i s ∙ reply-behind (base ∷ []) rest i (i - 1) (omega arith)

@@ -1,7 +1,7 @@
 // Count and Enumerate.
 #![tactic(auto)]
 
-ghost use Rattle.std.specs.Prelude.{◌≡◌, List, [], ◌∷◌, ◌++◌, ℕ, ◌*◌, ◌<◌, ◌≤◌, length};
+ghost use Rattle.std.specs.Prelude.{◌≡◌, Ok, List, [], ◌∷◌, ◌++◌, ℕ, ◌*◌, ◌<◌, ◌≤◌, length};
 ghost use Rattle.laws.specs.Ranges.{block};
 ghost use Rattle.laws.specs.Bytes.{text};
 ghost use Rattle.protocol.specs.Names.{flash_name};
@@ -23,27 +23,23 @@ use response_types::Said;
 use state::row::kind_of;
 use state::{Control, NAME_SIZE, Phase};
 
-// A name in the list, or a number past its end.
+// A name in the list.
 #[derive(Clone, Copy)]
 pub enum Listed {
     Base,
     Slot(usize),
     Flash(FlashKind),
-    Outside,
 }
 
 // How many flash names are listed.
 fn flash_count(phase: Phase) -> u32
     ensures { result ≡ flash_count phase }
 {
-    let last = FlashKind::Cleanup.number();
     let mut n: u32 = 0;
-    let mut blob = FlashKind::Image.number();
-    while blob <= last {
+    for blob in FlashKind::Image.number()..FlashKind::Cleanup.number() + 1 {
         if flash_listed(kind_of(blob), phase) {
             n += 1;
         }
-        blob += 1;
     }
     n
 }
@@ -51,56 +47,51 @@ fn flash_count(phase: Phase) -> u32
 // Count: the base, the committed slots, the flash names listed.
 pub fn count(control: Control) -> Said
     requires { control.marks < sixteen_bits }
-    ensures { (table names committed staged image hash a : List ℕ) → reply_of result a ≡ counted (state_of control table names committed staged image hash) }
+    ensures { (table names committed staged image hash a : List ℕ) → reply_of (Ok result) a ≡ counted (state_of control table names committed staged image hash) }
 {
-    let slots = u32::count_ones(control.marks);
-    let phase = control.phase;
+    let slots = control.marks.count_ones();
     Said::Number {
-        n: 1 + (slots + flash_count(phase)),
+        n: 1 + (slots + flash_count(control.phase)),
     }
 }
 
-// The listed flash name number i.
-fn flash_at(phase: Phase, i: u32) -> Listed
+// The listed flash name number i, if there are so many.
+fn flash_at(phase: Phase, i: u32) -> Option<Listed>
     ensures { result ≡ flash_at phase i }
 {
-    let last = FlashKind::Cleanup.number();
     let mut left = i;
-    let mut blob = FlashKind::Image.number();
-    while blob <= last {
+    for blob in FlashKind::Image.number()..FlashKind::Cleanup.number() + 1 {
         let kind = kind_of(blob);
         if flash_listed(kind, phase) {
             if left == 0 {
-                return Listed::Flash(kind);
+                return Some(Listed::Flash(kind));
             }
             left -= 1;
         }
-        blob += 1;
     }
-    Listed::Outside
+    None
 }
 
-// The listed name number `index`.
-fn listed_at(index: u32, control: Control) -> Listed
+// The listed name number `index`, if there are so many.
+fn listed_at(index: u32, control: Control) -> Option<Listed>
     requires { control.marks < sixteen_bits }
     ensures { ((table names committed staged image hash : List ℕ) → listed_reply result names ≡ enumerated index (state_of control table names committed staged image hash)) × InStore result }
 {
     if index == 0 {
-        return Listed::Base;
+        return Some(Listed::Base);
     }
     let i = index - 1;
-    let slots = u32::count_ones(control.marks);
+    let slots = control.marks.count_ones();
     if i < slots {
-        return Listed::Slot(nth_set(control.marks, i));
+        return Some(Listed::Slot(nth_set(control.marks, i)));
     }
-    let phase = control.phase;
-    flash_at(phase, i - slots)
+    flash_at(control.phase, i - slots)
 }
 
 // A name and its NUL become the fields in the answer buffer.
 fn lay(name: &[u8], answer: &mut [u8]) -> Said
     requires { (length name.now ≤ name_size) × AnswerLent answer.old }
-    ensures { Answers (reply (name.now ++ (0 ∷ []))) result answer.old answer.new }
+    ensures { Answers (reply (name.now ++ (0 ∷ []))) (Ok result) answer.old answer.new }
 {
     let len = name.len();
     copy_at(answer, FIELDS_AT, name);
@@ -111,7 +102,7 @@ fn lay(name: &[u8], answer: &mut [u8]) -> Said
 // Slot k's name: the bytes of its field up to the NUL.
 fn lay_slot(k: usize, names: &[u8], answer: &mut [u8]) -> Said
     requires { (k < slot_count) × (NamesLent names.now × AnswerLent answer.old) }
-    ensures { Answers (reply (text ((block name_size k).get names.now) ++ (0 ∷ []))) result answer.old answer.new }
+    ensures { Answers (reply (text ((block name_size k).get names.now) ++ (0 ∷ []))) (Ok result) answer.old answer.new }
 {
     let at = k * NAME_SIZE;
     let end = at + NAME_SIZE;
@@ -119,47 +110,35 @@ fn lay_slot(k: usize, names: &[u8], answer: &mut [u8]) -> Said
     lay(&names[at..nul], answer)
 }
 
-// A flash name.
-fn lay_flash(kind: FlashKind, answer: &mut [u8]) -> Said
-    requires { AnswerLent answer.old }
-    ensures { Answers (reply (flash_name kind ++ (0 ∷ []))) result answer.old answer.new }
+// The characters of a flash name.
+fn flash_name(kind: FlashKind) -> &'static [u8]
+    ensures { result.now ≡ flash_name kind }
 {
     match kind {
-        FlashKind::Image => {
-            let name = protocol::FLASH_IMAGE;
-            lay(&name, answer)
-        }
-        FlashKind::Hash => {
-            let name = protocol::FLASH_HASH;
-            lay(&name, answer)
-        }
-        FlashKind::Verify => {
-            let name = protocol::FLASH_VERIFY;
-            lay(&name, answer)
-        }
-        FlashKind::Update => {
-            let name = protocol::FLASH_UPDATE;
-            lay(&name, answer)
-        }
-        FlashKind::Cleanup => {
-            let name = protocol::FLASH_CLEANUP;
-            lay(&name, answer)
-        }
+        FlashKind::Image => &protocol::FLASH_IMAGE,
+        FlashKind::Hash => &protocol::FLASH_HASH,
+        FlashKind::Verify => &protocol::FLASH_VERIFY,
+        FlashKind::Update => &protocol::FLASH_UPDATE,
+        FlashKind::Cleanup => &protocol::FLASH_CLEANUP,
     }
 }
 
 // Enumerate: the listed name with its NUL stands in the answer buffer, or the index is not below the count.
-pub fn enumerate(index: u32, control: Control, names: &[u8], answer: &mut [u8]) -> Said
+pub fn enumerate(
+    index: u32,
+    control: Control,
+    names: &[u8],
+    answer: &mut [u8],
+) -> Result<Said, Code>
     requires { (control.marks < sixteen_bits) × (NamesLent names.now × AnswerLent answer.old) }
     ensures { (table committed staged image hash : List ℕ) → Answers (enumerated index (state_of control table names.now committed staged image hash)) result answer.old answer.new }
 {
-    match listed_at(index, control) {
-        Listed::Base => {
-            let name = protocol::BASE;
-            lay(&name, answer)
-        }
+    let Some(listed) = listed_at(index, control) else {
+        return Err(Code::OUT_OF_RANGE);
+    };
+    Ok(match listed {
+        Listed::Base => lay(&protocol::BASE, answer),
         Listed::Slot(k) => lay_slot(k, names, answer),
-        Listed::Flash(kind) => lay_flash(kind, answer),
-        Listed::Outside => Said::Refused(Code::OUT_OF_RANGE),
-    }
+        Listed::Flash(kind) => lay(flash_name(kind), answer),
+    })
 }

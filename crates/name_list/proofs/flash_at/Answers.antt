@@ -1,5 +1,5 @@
 -- `flash_at`: the name sought is number `left` of those that are left.
-use Rattle.std.proofs.Common.{◌≡◌, sym, ◌∙◌, ap, ℕ, ◌+◌, arith}
+use Rattle.std.proofs.Common.{◌≡◌, Some, sym, ◌∙◌, ap, ℕ, ◌+◌, arith}
 use Rattle.name_list.specs.Laws.{at_first, at-shown, at-hidden, outside}
 use Rattle.name_list.specs.Listed.{behind, flash_from}
 use Rattle.name_list.specs.declared.Listed.TheVariants.{Flash}
@@ -20,7 +20,7 @@ pub returns-then-left-eq0 : goal.returns-then-left-eq0
 returns-then-left-eq0 c =
     sym (c.loop-blob.invariant ∙ at_first c.args.phase c.loop-blob.blob (omega arith) c.loop-blob.left (is-listed (goal.at.returns-then-left-eq0
     c).After-flash_listed ∙ c.if-flash_listed.true) c.if-left-eq0.true
-    ∙ ap Flash (sym c.kind_of-kind.ensures))
+    ∙ ap (λ (k : FlashKind). Some (Flash k)) (sym c.kind_of-kind.ensures))
 
 pub loop-blob-preserved : goal.loop-blob-preserved
 loop-blob-preserved c =

@@ -5,6 +5,3 @@ use Rattle.name_list.proofs.flash_at.Given as goal
 
 abbrev pub invariant-loop-blob : goal.invariant-loop-blob
 invariant-loop-blob l = flash_at l.phase l.i ≡ flash_from (behind l.blob) l.blob l.phase l.left
-
-abbrev pub decreases-loop-blob : goal.decreases-loop-blob
-decreases-loop-blob l = l.last + 1 - l.blob

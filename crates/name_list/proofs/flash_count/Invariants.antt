@@ -6,6 +6,3 @@ use Rattle.name_list.proofs.flash_count.Given as goal
 
 abbrev pub invariant-loop-blob : goal.invariant-loop-blob
 invariant-loop-blob l = l.n + length (names_from (behind l.blob) l.blob l.phase) ≡ flash_count l.phase
-
-abbrev pub decreases-loop-blob : goal.decreases-loop-blob
-decreases-loop-blob l = l.last + 1 - l.blob
