@@ -4,6 +4,7 @@
 ghost use Rattle.std.specs.Prelude.{◌≡◌, List, ℕ, ◌<◌, length, replicate};
 ghost use Rattle.protocol.specs.Numbers.{image_size, hash_size, sixteen_bits};
 ghost use Rattle.state.specs.declared.row.Place.TheVariants.{AtFlash};
+ghost use Rattle.state.specs.Job.{status_number};
 ghost use Rattle.state.specs.State.{place_of, state_of};
 ghost use Rattle.state.specs.Entry.{words_of, lifted};
 ghost use Rattle.rules.specs.Command.{write, commit, stat, close, end_job};
@@ -87,8 +88,7 @@ pub fn clear_flash(image: &mut [u8], hash: &mut [u8])
 fn startable(e: Entry) -> bool
     ensures { result ≡ startable_in e.word }
 {
-    let status = e.status();
-    (status == Status::UNTRIED) | (status == Status::FAILED)
+    matches!(e.status(), Status::Untried | Status::Failed)
 }
 
 // The row with its job started, where it can start.
@@ -96,7 +96,7 @@ fn started(e: Entry) -> Entry
     ensures { result ≡ started e }
 {
     if startable(e) {
-        e.with_status(Status::RUNNING)
+        e.with_status(Status::Running)
     } else {
         e
     }
@@ -135,7 +135,7 @@ pub fn commit(
         }
         FlashKind::Cleanup => {
             clear_flash(image, hash);
-            write_row(table, r, e.with_status(Status::SUCCEEDED).lifted(clock));
+            write_row(table, r, e.with_status(Status::Succeeded).lifted(clock));
             empty_flash(control);
             Ok(Said::Done)
         }
@@ -143,19 +143,19 @@ pub fn commit(
 }
 
 // An update has succeeded.
-fn is_updated(kind: FlashKind, status: u32) -> bool
-    ensures { result ≡ updated_by kind status }
+fn is_updated(kind: FlashKind, status: Status) -> bool
+    ensures { result ≡ updated_by kind (status_number status) }
 {
-    matches!(kind, FlashKind::Update) & (status == Status::SUCCEEDED)
+    matches!((kind, status), (FlashKind::Update, Status::Succeeded))
 }
 
 // The phase after the Close of a session whose job has this status.
-fn closed_phase(kind: FlashKind, status: u32, phase: Phase) -> Phase
-    ensures { result ≡ closed_phase kind status phase }
+fn closed_phase(kind: FlashKind, status: Status, phase: Phase) -> Phase
+    ensures { result ≡ closed_phase kind (status_number status) phase }
 {
-    match kind {
-        FlashKind::Verify if status == Status::SUCCEEDED => Phase::Verified,
-        FlashKind::Verify | FlashKind::Update if status == Status::FAILED => Phase::Uploading,
+    match (kind, status) {
+        (FlashKind::Verify, Status::Succeeded) => Phase::Verified,
+        (FlashKind::Verify | FlashKind::Update, Status::Failed) => Phase::Uploading,
         _ => phase,
     }
 }
@@ -173,7 +173,7 @@ pub fn close(
     ensures { (clock : ℕ) (names committed staged answer : List ℕ) → after_said result control.new table.new names committed staged image.new hash.new answer ≡ on_row r clock close (state_of control.old table.old names committed staged image.old hash.old) }
 {
     let status = e.status();
-    if status == Status::RUNNING {
+    if status.is_running() {
         return Err(Code::BUSY);
     }
     clear_row(table, r);
@@ -217,13 +217,13 @@ pub fn stat(
 }
 
 // The status that an outcome gives.
-fn verdict(good: bool) -> u32
-    ensures { (result ≡ verdict good) × (result < 4) }
+fn verdict(good: bool) -> Status
+    ensures { status_number result ≡ verdict good }
 {
     if good {
-        Status::SUCCEEDED
+        Status::Succeeded
     } else {
-        Status::FAILED
+        Status::Failed
     }
 }
 
@@ -238,7 +238,7 @@ pub fn end_job(
     requires { RowIs table.old r e × (place_of e.blob ≡ AtFlash) }
     ensures { (clock : ℕ) (names committed staged image hash answer : List ℕ) → after_said result control table.new names committed staged image hash answer ≡ on_row r clock (end_job good) (state_of control table.old names committed staged image hash) }
 {
-    if e.status() == Status::RUNNING {
+    if e.status().is_running() {
         write_row(table, r, e.with_status(verdict(good)));
         return Ok(Said::Done);
     }

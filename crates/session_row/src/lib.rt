@@ -59,11 +59,8 @@ pub fn state_bits(e: Entry) -> u16
         BlobState::OPEN_READ,
     );
     let writing = bit_if(e.writes(), BlobState::OPEN_WRITE);
-    let committing = bit_if(status == Status::RUNNING, BlobState::COMMITTING);
-    let committed = bit_if(
-        (status == Status::SUCCEEDED) | (clean == 1),
-        BlobState::COMMITTED,
-    );
-    let failed = bit_if(status == Status::FAILED, BlobState::COMMIT_ERROR);
+    let committing = bit_if(status.is_running(), BlobState::COMMITTING);
+    let committed = bit_if(status.is_succeeded() | (clean == 1), BlobState::COMMITTED);
+    let failed = bit_if(status.is_failed(), BlobState::COMMIT_ERROR);
     reading + (writing + (committing + (committed + failed)))
 }

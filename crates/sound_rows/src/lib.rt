@@ -7,6 +7,7 @@ ghost use Rattle.laws.specs.Bytes.{zeros};
 ghost use Rattle.protocol.specs.Numbers.{row_count};
 ghost use Rattle.state.specs.State.{State, Slot, state_of, with_rows};
 ghost use Rattle.state.specs.Entry.{words_of};
+ghost use Rattle.state.specs.Job.{status_number};
 ghost use Rattle.state.specs.Soundness.{store_row, job_fits, flash_row, used_row, row_ok, rows_apart, writes_slot, has_writer};
 ghost use Rattle.state.specs.Lent.{TableLent};
 
@@ -20,24 +21,20 @@ fn store_row(e: Entry, held: bool, mark: bool) -> bool
     ensures { (b : Slot) → held ≡ eqb b.held 1 → mark ≡ eqb b.mark 1 → result ≡ store_row e.word b }
 {
     let clean = e.clean();
-    (held & (e.status() == Status::UNTRIED))
+    (held & e.status().is_untried())
         & (store_flags(e.flags()) & ((e.writes() | (clean == 1)) & ((clean == 0) | mark)))
 }
 
 // Status and phase of a flash row.
-fn job_fits(kind: FlashKind, status: u32, phase: Phase) -> bool
-    ensures { result ≡ job_fits kind status phase }
+fn job_fits(kind: FlashKind, status: Status, phase: Phase) -> bool
+    ensures { result ≡ job_fits kind (status_number status) phase }
 {
     match kind {
-        FlashKind::Image => (status == Status::UNTRIED) & phase.is_uploading(),
-        FlashKind::Hash => (status == Status::UNTRIED) & phase.is_uploading(),
-        FlashKind::Verify => {
-            !phase.is_idle() & ((status == Status::UNTRIED) | phase.is_uploading())
-        }
+        FlashKind::Image => status.is_untried() & phase.is_uploading(),
+        FlashKind::Hash => status.is_untried() & phase.is_uploading(),
+        FlashKind::Verify => { !phase.is_idle() & (status.is_untried() | phase.is_uploading()) }
         FlashKind::Update => phase.is_verified(),
-        FlashKind::Cleanup => {
-            (status == Status::UNTRIED) | ((status == Status::SUCCEEDED) & phase.is_idle())
-        }
+        FlashKind::Cleanup => { status.is_untried() | (status.is_succeeded() & phase.is_idle()) }
     }
 }
 

@@ -8,3 +8,4 @@ pub mod Agree
 pub mod Entry
 pub mod Answers
 pub mod Values
+pub mod Job

@@ -1,7 +1,9 @@
 // What the cabinet keeps by value, the sizes of what is lent to it, and small code on rows, masks and the control block.
 #![tactic(auto)]
 
-ghost use Rattle.std.specs.Prelude.{◌≡◌};
+ghost use Rattle.std.specs.Prelude.{◌≡◌, eqb};
+ghost use Rattle.protocol.specs.Numbers.{untried, running, succeeded, failed};
+ghost use Rattle.state.specs.Job.{status_number};
 ghost use Rattle.state.specs.Soundness.{is_idle, is_uploading, is_verified};
 
 pub mod mask;
@@ -36,20 +38,50 @@ pub const CLEAN_UNIT: u32 = 0x40000;
 pub const WORD_LIMIT: u32 = 0x80000;
 
 // The status of a row's job.
-#[derive(Drop)]
-pub struct Status {}
+#[derive(Clone, Copy, PartialEq, Eq)]
+pub enum Status {
+    Untried,
+    Running,
+    Succeeded,
+    Failed,
+}
 
 impl Status {
-    pub const UNTRIED: u32 = 0;
+    // Its number in a row's third word.
+    pub fn number(self) -> u32
+        ensures { result ≡ status_number self }
+    {
+        match self {
+            Status::Untried => 0,
+            Status::Running => 1,
+            Status::Succeeded => 2,
+            Status::Failed => 3,
+        }
+    }
 
-    pub const RUNNING: u32 = 1;
+    pub fn is_untried(self) -> bool
+        ensures { result ≡ eqb (status_number self) untried }
+    {
+        matches!(self, Status::Untried)
+    }
 
-    pub const SUCCEEDED: u32 = 2;
+    pub fn is_running(self) -> bool
+        ensures { result ≡ eqb (status_number self) running }
+    {
+        matches!(self, Status::Running)
+    }
 
-    pub const FAILED: u32 = 3;
+    pub fn is_succeeded(self) -> bool
+        ensures { result ≡ eqb (status_number self) succeeded }
+    {
+        matches!(self, Status::Succeeded)
+    }
 
-    // How many there are.
-    pub const COUNT: u32 = 4;
+    pub fn is_failed(self) -> bool
+        ensures { result ≡ eqb (status_number self) failed }
+    {
+        matches!(self, Status::Failed)
+    }
 }
 
 // How far an update of the flash has come.

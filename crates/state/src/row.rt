@@ -4,6 +4,7 @@ ghost use Rattle.laws.specs.Ranges.{block};
 ghost use Rattle.protocol.specs.Names.{kind_of};
 ghost use Rattle.protocol.specs.Numbers.{row_count, row_words, status_unit};
 ghost use Rattle.state.specs.Words.{flags_in, status_in, clean_in, writing_in, writes_with, store_flags, flash_flags, word_with, free_row};
+ghost use Rattle.state.specs.Job.{status_number};
 ghost use Rattle.state.specs.State.{place_of};
 ghost use Rattle.state.specs.Entry.{words_of, lifted, status_set, clean_set};
 ghost use Rattle.state.specs.Lent.{TableLent};
@@ -60,10 +61,15 @@ impl Entry {
         self.word % STATUS_UNIT
     }
 
-    pub fn status(self) -> u32
-        ensures { result ≡ status_in self.word }
+    pub fn status(self) -> Status
+        ensures { status_number result ≡ status_in self.word }
     {
-        self.word / STATUS_UNIT % Status::COUNT
+        match self.word / STATUS_UNIT % 4 {
+            0 => Status::Untried,
+            1 => Status::Running,
+            2 => Status::Succeeded,
+            _ => Status::Failed,
+        }
     }
 
     pub fn clean(self) -> u32
@@ -90,9 +96,8 @@ impl Entry {
     }
 
     // Another job status.
-    pub fn with_status(self, status: u32) -> Entry
-        requires { status < 4 }
-        ensures { result ≡ status_set self status }
+    pub fn with_status(self, status: Status) -> Entry
+        ensures { result ≡ status_set self (status_number status) }
     {
         Entry {
             word: word_with(self.flags(), status, self.clean()),
@@ -134,11 +139,11 @@ pub fn flash_flags(flags: u32) -> bool
 }
 
 // The third word with these flags, this job status and this clean mark.
-pub fn word_with(flags: u32, status: u32, clean: u32) -> u32
-    requires { (flags < status_unit) × ((status < 4) × (clean < 2)) }
-    ensures { result ≡ word_with flags status clean }
+pub fn word_with(flags: u32, status: Status, clean: u32) -> u32
+    requires { (flags < status_unit) × (clean < 2) }
+    ensures { result ≡ word_with flags (status_number status) clean }
 {
-    flags + status * STATUS_UNIT + clean * CLEAN_UNIT
+    flags + status.number() * STATUS_UNIT + clean * CLEAN_UNIT
 }
 
 // The flash name of a blob number that is no slot's. A number above cleanup's is taken for cleanup; no sound row has one.
