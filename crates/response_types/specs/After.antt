@@ -7,7 +7,9 @@ use Rattle.protocol.specs.Decode.{fields_at}
 use Rattle.protocol.specs.declared.Code.{Code}
 use Rattle.protocol.specs.Frame.{Reply, refused, done, reply, stat_fields}
 use Rattle.state.specs.State.{State, state_of}
+use Rattle.state.specs.Memory.{state_in}
 use Rattle.state.specs.declared.Control.{Control}
+use Rattle.state.specs.declared.Memory.{Memory}
 use Rattle.response_types.specs.declared.Said.{Said}
 use Rattle.response_types.specs.declared.Said.TheVariants.{Done, Session, Number, Stat, Fields}
 
@@ -27,6 +29,10 @@ reply_of (Ok (Fields len)) a = reply (part fields_at len a)
 -- the reply and the state: what is said, the control block, then table, names, committed, staged, image, hash, and the answer buffer
 abbrev pub after_said : Outcome → Control → (table names committed staged image hash answer : List ℕ) → Reply × State
 after_said said v t n c g i h a = (reply_of said a, state_of v t n c g i h)
+
+-- the same, of all that is lent
+abbrev pub after : Outcome → Memory → (answer : List ℕ) → Reply × State
+after said m a = (reply_of said a, state_in m)
 
 -- the answer buffer once a reply's fields are laid behind the place of header and CRC; all else is kept
 abbrev pub fields_laid : Reply → List ℕ → List ℕ

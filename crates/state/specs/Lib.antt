@@ -9,3 +9,4 @@ pub mod Entry
 pub mod Answers
 pub mod Values
 pub mod Job
+pub mod Memory

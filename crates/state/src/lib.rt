@@ -126,3 +126,16 @@ pub struct Control {
     pub next: u32,
     pub last_sweep: u32,
 }
+
+// All that a caller lends for a request, beside the message and the answer buffer: the control block by value, and the session table, the names,
+// the committed and staged regions, the image and the hash where they lie.
+#[derive(Drop)]
+pub struct Memory<'a> {
+    pub control: Control,
+    pub table: &'a mut [u32],
+    pub names: &'a mut [u8],
+    pub committed: &'a mut [u8],
+    pub staged: &'a mut [u8],
+    pub image: &'a mut [u8],
+    pub hash: &'a mut [u8],
+}
