@@ -1,5 +1,5 @@
 -- `request_serve::serve` meets its contract: each command by what its code ensures. Assumes nothing.
-use Rattle.std.proofs.Common.{◌≡◌, refl, ap, List, ℕ, ◌≤◌, arith}
+use Rattle.std.proofs.Common.{◌≡◌, Ok, Err, refl, ap, List, ℕ, ◌≤◌, arith}
 use Rattle.protocol.specs.Frame.{Reply}
 use Rattle.protocol.specs.Inside.{Inside}
 use Rattle.protocol.specs.Numbers.{read_most}
@@ -7,30 +7,30 @@ use Rattle.protocol.specs.declared.Request.{Request}
 use Rattle.request_serve.proofs.Laws.{shape_of, lengths-fit, inside_of, write-rest}
 use Rattle.request_serve.proofs.Serving.{Serves, plain, laying, asked_is}
 use Rattle.request_serve.specs.Serves.{readied}
-use Rattle.response_types.specs.After.{fields_length}
-use Rattle.response_types.specs.Laws.{refused-leaves}
-use Rattle.response_types.specs.declared.Said.{Said}
+use Rattle.response_types.specs.After.{Outcome, fields_length}
 use Rattle.rules.specs.Respond.{answered}
 use Rattle.state.specs.Parts.{Shape}
 use Rattle.state.specs.State.{State, state_of}
 use Rattle.request_serve.proofs.serve.Goals as goal
 use Rattle.request_serve.proofs.serve.Goals.{Start}
 
+-- the state that is found
+abbrev found : Start → State
+found c = let a = c.args in state_of a.control.now a.table.now a.names.now a.committed.now a.staged.now a.image.now a.hash.now
+
 -- what is lent has the right lengths
-shape : (c : Start) → Shape ((let a = c.args in state_of a.control a.table.now a.names.now a.committed.now a.staged.now a.image.now a.hash.now))
-shape c = shape_of ((let a = c.args in state_of a.control a.table.now a.names.now a.committed.now a.staged.now a.image.now a.hash.now)) c.requires.0
+shape : (c : Start) → Shape (found c)
+shape c = shape_of (found c) c.requires.0
 
 -- what the request points to stands in the message
 inside : (c : Start) {q : Request} → c.args.asked ≡ q → Inside c.args.message.now q
 inside c {q} e = inside_of c.args.message.now c.args.asked q c.requires.1.0 e
 
 -- the request is the one of the arm
-answers : (c : Start) {said : Said} {x : Reply × State} {b : List ℕ} {q : Request} → c.args.asked ≡ q
-    → Serves said x b q c.args.clock c.args.message.now ((let a = c.args in state_of a.control a.table.now a.names.now a.committed.now a.staged.now a.image.now a.hash.now)) c.args.answer.now
-    → ((x, b) ≡ readied c.args.asked c.args.clock c.args.message.now ((let a = c.args in state_of a.control a.table.now a.names.now a.committed.now
-    a.staged.now a.image.now a.hash.now)) c.args.answer.now) × (fields_length said ≤ read_most)
-answers c {said} {x} {b} {q} e h = asked_is said x c.args.answer.now b c.args.clock c.args.message.now ((let a = c.args in state_of a.control
-    a.table.now a.names.now a.committed.now a.staged.now a.image.now a.hash.now)) q c.args.asked e h
+answers : (c : Start) {said : Outcome} {x : Reply × State} {b : List ℕ} {q : Request} → c.args.asked ≡ q
+    → Serves said x b q c.args.clock c.args.message.now (found c) c.args.answer.now
+    → ((x, b) ≡ readied c.args.asked c.args.clock c.args.message.now (found c) c.args.answer.now) × (fields_length said ≤ read_most)
+answers c {said} {x} {b} {q} e h = asked_is said x c.args.answer.now b c.args.clock c.args.message.now (found c) q c.args.asked e h
 
 pub count-requires : goal.count-requires
 count-requires c = (shape (goal.at.count-requires c).Start).marks-small
@@ -53,8 +53,7 @@ read-requires c =
           g.staged-size,
           (
             c.requires.1.1,
-            lengths-fit ((let a = c.args in state_of a.control a.table.now a.names.now
-                a.committed.now a.staged.now a.image.now a.hash.now)) c.requires.0,
+            lengths-fit (found (goal.at.read-requires c).Start) c.requires.0,
           ),
         ),
       ),
@@ -104,12 +103,10 @@ pub returns-in-Count : goal.returns-in-Count
 unfolding answered
 returns-in-Count c =
     let a = c.args in
-    answers (goal.at.returns-in-Count c).Start c.in-Count.is (plain _ _ _ _ _ refl c.count.result ((let a = c.args in state_of a.control a.table.now
-    a.names.now a.committed.now a.staged.now a.image.now a.hash.now))
+    answers (goal.at.returns-in-Count c).Start c.in-Count.is (plain _ _ _ _ _ refl (Ok c.count.result) (found (goal.at.returns-in-Count c).Start)
     (λ (b : List ℕ). ap (λ (r : Reply). (
       r,
-      (let a = c.args in state_of a.control a.table.now a.names.now a.committed.now a.staged.now a.image.now
-          a.hash.now),
+      (found (goal.at.returns-in-Count c).Start),
     )) (c.count.ensures a.table.now a.names.now a.committed.now a.staged.now a.image.now a.hash.now b)))
 
 pub returns-in-Enumerate : goal.returns-in-Enumerate
@@ -118,13 +115,12 @@ returns-in-Enumerate c =
     let a = c.args in
     let e = c.enumerate.ensures a.table.now a.committed.now a.staged.now a.image.now a.hash.now in
     answers (goal.at.returns-in-Enumerate c).Start c.in-Enumerate.is
-    (laying _ _ _ _ _ refl c.enumerate.result ((let a = c.args in state_of a.control a.table.now a.names.now a.committed.now a.staged.now a.image.now
-    a.hash.now)) _ (ap (λ (r : Reply). (r, (let a = c.args in state_of a.control a.table.now a.names.now a.committed.now a.staged.now a.image.now a.hash.now))) e.says) e.short e.lays)
+    (laying _ _ _ _ _ refl c.enumerate.result (found (goal.at.returns-in-Enumerate c).Start) _ (ap (λ (r : Reply). (r, (found (goal.at.returns-in-Enumerate c).Start)) e.says) e.short e.lays)
 
 pub returns-in-Open : goal.returns-in-Open
 unfolding answered
 returns-in-Open c =
-    answers (goal.at.returns-in-Open c).Start c.in-Open.is (plain _ _ _ _ _ refl c.«open».result.said _ c.«open».ensures)
+    answers (goal.at.returns-in-Open c).Start c.in-Open.is (plain _ _ _ _ _ refl c.«open».result _ c.«open».ensures)
 
 pub returns-in-Read : goal.returns-in-Read
 unfolding answered
@@ -137,38 +133,35 @@ pub returns-in-Write : goal.returns-in-Write
 unfolding answered
 returns-in-Write c =
     let a = c.args in
-    answers (goal.at.returns-in-Write c).Start c.in-Write.is (plain _ _ _ _ _ refl c.write.result.said _
-    (λ (b : List ℕ). write-rest _ a.clock _ _ a.message.now ((let a = c.args in state_of a.control a.table.now a.names.now a.committed.now
-    a.staged.now a.image.now a.hash.now)) _ (c.write.ensures a.names.now a.committed.now b)))
+    answers (goal.at.returns-in-Write c).Start c.in-Write.is (plain _ _ _ _ _ refl c.write.result _
+    (λ (b : List ℕ). write-rest _ a.clock _ _ a.message.now (found (goal.at.returns-in-Write c).Start) _ (c.write.ensures a.names.now a.committed.now b)))
 
 pub returns-in-Commit : goal.returns-in-Commit
 unfolding answered
 returns-in-Commit c =
     let a = c.args in
-    answers (goal.at.returns-in-Commit c).Start c.in-Commit.is (plain _ _ _ _ _ refl c.commit.result.said _ (c.commit.ensures a.names.now))
+    answers (goal.at.returns-in-Commit c).Start c.in-Commit.is (plain _ _ _ _ _ refl c.commit.result _ (c.commit.ensures a.names.now))
 
 pub returns-in-Close : goal.returns-in-Close
 unfolding answered
 returns-in-Close c =
     let a = c.args in
-    answers (goal.at.returns-in-Close c).Start c.in-Close.is (plain _ _ _ _ _ refl c.close.result.said _ (c.close.ensures a.clock))
+    answers (goal.at.returns-in-Close c).Start c.in-Close.is (plain _ _ _ _ _ refl c.close.result _ (c.close.ensures a.clock))
 
 pub returns-in-Delete : goal.returns-in-Delete
 unfolding answered
 returns-in-Delete c =
     let a = c.args in
-    answers (goal.at.returns-in-Delete c).Start c.in-Delete.is (plain _ _ _ _ _ refl c.delete.result.said _ (c.delete.ensures a.image.now a.hash.now))
+    answers (goal.at.returns-in-Delete c).Start c.in-Delete.is (plain _ _ _ _ _ refl c.delete.result _ (c.delete.ensures a.image.now a.hash.now))
 
 pub returns-in-Stat : goal.returns-in-Stat
 unfolding answered
 returns-in-Stat c =
     let a = c.args in
-    answers (goal.at.returns-in-Stat c).Start c.in-Stat.is (plain _ _ _ _ _ refl c.stat.result ((let a = c.args in state_of a.control a.table.now
-    a.names.now a.committed.now a.staged.now a.image.now a.hash.now))
+    answers (goal.at.returns-in-Stat c).Start c.in-Stat.is (plain _ _ _ _ _ refl c.stat.result (found (goal.at.returns-in-Stat c).Start)
     (λ (b : List ℕ). ap (λ (r : Reply). (
       r,
-      (let a = c.args in state_of a.control a.table.now a.names.now a.committed.now a.staged.now a.image.now
-          a.hash.now),
+      (found (goal.at.returns-in-Stat c).Start),
     )) (c.stat.ensures a.committed.now a.staged.now a.image.now a.hash.now b)))
 
 pub returns-in-SessionStat : goal.returns-in-SessionStat
@@ -188,4 +181,4 @@ returns-in-WriteMeta c =
 pub returns-in-Refused : goal.returns-in-Refused
 unfolding answered
 returns-in-Refused c =
-    answers (goal.at.returns-in-Refused c).Start c.in-Refused.is (plain _ _ _ _ _ refl c.refused.result.said _ (λ (b : List ℕ). refused-leaves b c.refused.ensures refl))
+    answers (goal.at.returns-in-Refused c).Start c.in-Refused.is (plain _ _ _ _ _ refl (Err c.in-Refused.code) _ (λ (b : List ℕ). refl))
