@@ -1,20 +1,20 @@
 // The steps of Open: the row of a new session, and the slot of a new or a held name.
 #![tactic(auto)]
 
-ghost use Rattle.std.specs.Prelude.{◌≡◌, List, ℕ, ◌+◌, ◌<◌, ◌≤◌, length};
+ghost use Rattle.std.specs.Prelude.{◌≡◌, Ok, List, ℕ, ◌+◌, ◌<◌, ◌≤◌, length};
 ghost use Rattle.laws.specs.Ranges.{part};
 ghost use Rattle.protocol.specs.Numbers.{row_count, slot_count, name_most, sixteen_bits};
 ghost use Rattle.state.specs.declared.row.Place.TheVariants.{AtSlot};
 ghost use Rattle.state.specs.State.{state_of, in_body};
 ghost use Rattle.state.specs.Soundness.{slot_at};
 ghost use Rattle.state.specs.Lent.{TableLent, NamesLent, RegionsLent};
-ghost use Rattle.response_types.specs.After.{after_act};
+ghost use Rattle.response_types.specs.After.{after_said};
 ghost use Rattle.open_steps.specs.Steps.{named, row_opened};
 ghost use Rattle.rules.specs.Opening.{held_slot};
 
 use lookup::{fresh_id, next_id};
 use memory_slots::{copy_region, put_name};
-use response_types::{Act, Said};
+use response_types::Said;
 use state::mask::set_bit;
 use state::row::{Entry, word_with, write_row, writes_with};
 use state::{Control, Status};
@@ -26,28 +26,23 @@ pub fn open_row(
     flags: u16,
     clean: u32,
     clock: u32,
-    control: Control,
+    control: &mut Control,
     table: &mut [u32],
-) -> Act
-    requires { (r < row_count) × ((clean < 2) × ((control.next < sixteen_bits) × TableLent table.old)) }
-    ensures { (names committed staged image hash answer : List ℕ) → after_act result table.new names committed staged image hash answer ≡ row_opened r blob flags clean clock (state_of control table.old names committed staged image hash) }
+) -> Said
+    requires { (r < row_count) × ((clean < 2) × ((control.old.next < sixteen_bits) × TableLent table.old)) }
+    ensures { (names committed staged image hash answer : List ℕ) → after_said (Ok result) control.new table.new names committed staged image hash answer ≡ row_opened r blob flags clean clock (state_of control.old table.old names committed staged image hash) }
 {
     let id = fresh_id(table, control.rows, control.next);
-    let word = word_with(flags as u32, Status::UNTRIED, clean);
     let row = Entry {
         id,
         blob,
-        word,
+        word: word_with(flags as u32, Status::UNTRIED, clean),
         stamp: clock,
     };
     write_row(table, r, row);
-    let mut next = control;
-    next.rows = set_bit(control.rows, r);
-    next.next = next_id(id);
-    Act {
-        said: Said::Session { id: id as u16 },
-        control: next,
-    }
+    control.rows = set_bit(control.rows, r);
+    control.next = next_id(id);
+    Said::Session { id: id as u16 }
 }
 
 // Slot k takes a new name. An unused slot of a sound state is zero already, so nothing is cleared.
@@ -56,34 +51,23 @@ pub fn new_slot(
     message: &[u8],
     start: usize,
     len: usize,
-    control: Control,
+    control: &mut Control,
     names: &mut [u8],
-) -> Control
+)
     requires { (k < slot_count) × (((start + len ≤ length message.now) × (len ≤ name_most)) × NamesLent names.old) }
-    ensures { (table committed staged image hash : List ℕ) → state_of result table names.new committed staged image hash ≡ (in_body (AtSlot k)).put (named (part start len message.now) (slot_at k (state_of control table names.old committed staged image hash))) (state_of control table names.old committed staged image hash) }
+    ensures { (table committed staged image hash : List ℕ) → state_of control.new table names.new committed staged image hash ≡ (in_body (AtSlot k)).put (named (part start len message.now) (slot_at k (state_of control.old table names.old committed staged image hash))) (state_of control.old table names.old committed staged image hash) }
 {
     put_name(names, k, message, start, len);
-    let mut next = control;
-    next.slots = set_bit(control.slots, k);
-    next
+    control.slots = set_bit(control.slots, k);
 }
 
 // Slot k of a held name: a writing session's staged region and length become the committed ones.
-pub fn stage_slot(
-    k: usize,
-    flags: u16,
-    control: Control,
-    committed: &[u8],
-    staged: &mut [u8],
-) -> Control
+pub fn stage_slot(k: usize, flags: u16, control: &mut Control, committed: &[u8], staged: &mut [u8])
     requires { (k < slot_count) × (RegionsLent committed.now × RegionsLent staged.old) }
-    ensures { (table names image hash : List ℕ) → state_of result table names committed.now staged.new image hash ≡ (in_body (AtSlot k)).put (held_slot flags (slot_at k (state_of control table names committed.now staged.old image hash))) (state_of control table names committed.now staged.old image hash) }
+    ensures { (table names image hash : List ℕ) → state_of control.new table names committed.now staged.new image hash ≡ (in_body (AtSlot k)).put (held_slot flags (slot_at k (state_of control.old table names committed.now staged.old image hash))) (state_of control.old table names committed.now staged.old image hash) }
 {
-    if !writes_with(flags as u32) {
-        return control;
+    if writes_with(flags as u32) {
+        copy_region(staged, committed, k);
+        control.staged_len[k] = control.committed_len[k];
     }
-    copy_region(staged, committed, k);
-    let mut next = control;
-    next.staged_len[k] = control.committed_len[k];
-    next
 }

@@ -12,14 +12,16 @@ use Rattle.open.proofs.open.Goals as goal
 swept-test : (t : ℕ) (s x : State) → is_sound s ≡ true → x ≡ swept t s → is_sound x ≡ true
 swept-test t s x h e = ap is_sound e ∙ test-of-sound (swept t s) (swept-sound t s (sound-of-test s h))
 
-pub sweep-after-requires : goal.sweep-after-requires
-sweep-after-requires c = let g = (sound-of-test ((let a = c.args in state_of a.control a.table.now a.names.now a.committed.now a.staged.now
-    a.image.now a.hash.now)) c.requires.0).shape in (g.table-size, (g.names-size, (g.committed-size, (g.staged-size, (g.image-size, g.hash-size)))))
+pub sweep-requires : goal.sweep-requires
+sweep-requires c =
+    let a = c.args in
+    let g = (sound-of-test (state_of a.control.now a.table.now a.names.now a.committed.now a.staged.now a.image.now a.hash.now) c.requires.0).shape in
+    (g.table-size, (g.names-size, (g.committed-size, (g.staged-size, (g.image-size, g.hash-size)))))
 
 pub open_swept-requires : goal.open_swept-requires
 open_swept-requires c =
-    (c.requires.1, swept-test c.args.clock ((let a = c.args in state_of a.control a.table.now a.names.now a.committed.now a.staged.now a.image.now a.hash.now)) _ c.requires.0 c.sweep-after.ensures)
+    let a = c.args in
+    (c.requires.1, swept-test a.clock (state_of a.control.now a.table.now a.names.now a.committed.now a.staged.now a.image.now a.hash.now) _ c.requires.0 c.sweep.ensures)
 
 pub returns : goal.returns
-returns c =
-    λ (a : List ℕ). c.open_swept.ensures a ∙ ap (open_blob c.args.blob c.args.flags c.args.clock c.args.message.now) c.sweep-after.ensures
+returns c = λ (x : List ℕ). c.open_swept.ensures x ∙ ap (open_blob c.args.blob c.args.flags c.args.clock c.args.message.now) c.sweep.ensures

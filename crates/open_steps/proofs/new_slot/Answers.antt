@@ -13,5 +13,5 @@ pub returns : goal.returns
 returns c =
     λ t d g i h.
     let a = c.args in
-    ap (λ (x : Slots). in_store.put x (state_of a.control t a.names.now d g i h))
-    (named_put a.k (part a.start a.len a.message.now) (store_of a.control a.names.now d g) _ _ c.put_name.ensures c.set_bit.ensures)
+    ap (λ (x : Slots). in_store.put x (state_of a.control.now t a.names.now d g i h))
+    (named_put a.k (part a.start a.len a.message.now) (store_of a.control.now a.names.now d g) _ _ c.put_name.ensures c.set_bit-control.ensures)
