@@ -36,7 +36,7 @@ pub fn open_row(
     let row = Entry {
         id,
         blob,
-        word: word_with(flags as u32, Status::UNTRIED, clean),
+        word: word_with(flags as u32, Status::Untried, clean),
         stamp: clock,
     };
     write_row(table, r, row);

@@ -10,7 +10,7 @@ ghost use Rattle.state.specs.Lent.{TableLent, NamesLent, RegionsLent, ImageLent,
 
 use state::mask::has;
 use state::row::{Entry, Place, read_row};
-use state::{Control, ROWS, Status};
+use state::{Control, ROWS};
 
 // A sweep is due this many seconds after the last one.
 const SWEEP_EVERY: u64 = 60;
@@ -22,7 +22,7 @@ const SESSION_LIFE: u64 = 600;
 fn is_stale(e: Entry, clock: u32) -> bool
     ensures { result ≡ ltb (e.stamp + session_life) clock && not (eqb (status_in e.word) running) }
 {
-    (u64::from(e.stamp) + SESSION_LIFE < u64::from(clock)) & (e.status() != Status::RUNNING)
+    (u64::from(e.stamp) + SESSION_LIFE < u64::from(clock)) & !e.status().is_running()
 }
 
 // A sweep is due.

@@ -103,19 +103,18 @@ pub returns-in-Count : goal.returns-in-Count
 unfolding answered
 returns-in-Count c =
     let a = c.args in
-    answers (goal.at.returns-in-Count c).Start c.in-Count.is (plain _ _ _ _ _ refl (Ok c.count.result) (found (goal.at.returns-in-Count c).Start)
-    (λ (b : List ℕ). ap (λ (r : Reply). (
-      r,
-      (found (goal.at.returns-in-Count c).Start),
-    )) (c.count.ensures a.table.now a.names.now a.committed.now a.staged.now a.image.now a.hash.now b)))
+    let s = found (goal.at.returns-in-Count c).Start in
+    answers (goal.at.returns-in-Count c).Start c.in-Count.is (plain _ _ _ _ _ refl (Ok c.count.result) s
+    (λ (b : List ℕ). ap (λ (r : Reply). (r, s)) (c.count.ensures a.table.now a.names.now a.committed.now a.staged.now a.image.now a.hash.now b)))
 
 pub returns-in-Enumerate : goal.returns-in-Enumerate
 unfolding answered
 returns-in-Enumerate c =
     let a = c.args in
+    let s = found (goal.at.returns-in-Enumerate c).Start in
     let e = c.enumerate.ensures a.table.now a.committed.now a.staged.now a.image.now a.hash.now in
     answers (goal.at.returns-in-Enumerate c).Start c.in-Enumerate.is
-    (laying _ _ _ _ _ refl c.enumerate.result (found (goal.at.returns-in-Enumerate c).Start) _ (ap (λ (r : Reply). (r, (found (goal.at.returns-in-Enumerate c).Start)) e.says) e.short e.lays)
+    (laying _ _ _ _ _ refl c.enumerate.result s _ (ap (λ (r : Reply). (r, s)) e.says) e.short e.lays)
 
 pub returns-in-Open : goal.returns-in-Open
 unfolding answered
@@ -139,30 +138,25 @@ returns-in-Write c =
 pub returns-in-Commit : goal.returns-in-Commit
 unfolding answered
 returns-in-Commit c =
-    let a = c.args in
-    answers (goal.at.returns-in-Commit c).Start c.in-Commit.is (plain _ _ _ _ _ refl c.commit.result _ (c.commit.ensures a.names.now))
+    answers (goal.at.returns-in-Commit c).Start c.in-Commit.is (plain _ _ _ _ _ refl c.commit.result _ (c.commit.ensures c.args.names.now))
 
 pub returns-in-Close : goal.returns-in-Close
 unfolding answered
 returns-in-Close c =
-    let a = c.args in
-    answers (goal.at.returns-in-Close c).Start c.in-Close.is (plain _ _ _ _ _ refl c.close.result _ (c.close.ensures a.clock))
+    answers (goal.at.returns-in-Close c).Start c.in-Close.is (plain _ _ _ _ _ refl c.close.result _ (c.close.ensures c.args.clock))
 
 pub returns-in-Delete : goal.returns-in-Delete
 unfolding answered
 returns-in-Delete c =
-    let a = c.args in
-    answers (goal.at.returns-in-Delete c).Start c.in-Delete.is (plain _ _ _ _ _ refl c.delete.result _ (c.delete.ensures a.image.now a.hash.now))
+    answers (goal.at.returns-in-Delete c).Start c.in-Delete.is (plain _ _ _ _ _ refl c.delete.result _ (c.delete.ensures c.args.image.now c.args.hash.now))
 
 pub returns-in-Stat : goal.returns-in-Stat
 unfolding answered
 returns-in-Stat c =
     let a = c.args in
-    answers (goal.at.returns-in-Stat c).Start c.in-Stat.is (plain _ _ _ _ _ refl c.stat.result (found (goal.at.returns-in-Stat c).Start)
-    (λ (b : List ℕ). ap (λ (r : Reply). (
-      r,
-      (found (goal.at.returns-in-Stat c).Start),
-    )) (c.stat.ensures a.committed.now a.staged.now a.image.now a.hash.now b)))
+    let s = found (goal.at.returns-in-Stat c).Start in
+    answers (goal.at.returns-in-Stat c).Start c.in-Stat.is (plain _ _ _ _ _ refl c.stat.result s
+    (λ (b : List ℕ). ap (λ (r : Reply). (r, s)) (c.stat.ensures a.committed.now a.staged.now a.image.now a.hash.now b)))
 
 pub returns-in-SessionStat : goal.returns-in-SessionStat
 unfolding answered
