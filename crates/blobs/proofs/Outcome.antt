@@ -3,7 +3,12 @@ use mathlib.Core.Path.{◌≡◌, refl, sym, ap, ◌∙◌}
 use mathlib.Core.Bool.{Bool, true, false, cond}
 use mathlib.Core.List.{[]}
 use Prim.Native.Nat.{ℕ}
-use Rattle.protocol.specs.Numbers.{not_sound}
+use Rattle.std.specs.Prelude.{Ok, Err}
+use Rattle.protocol.specs.Numbers.{success, not_sound}
+use Rattle.protocol.specs.declared.Code.{Code}
+use Rattle.response_types.specs.After.{Outcome, reply_of}
+use Rattle.response_types.specs.declared.Said.{Said}
+use Rattle.response_types.specs.declared.Said.TheVariants.{Done, Session, Number, Stat, Fields}
 use Rattle.protocol.specs.Frame.{Reply, refused, done, reply}
 use Rattle.state.specs.State.{State}
 use Rattle.state.specs.Soundness.{is_sound}
@@ -24,6 +29,19 @@ unfolding silent
 quiet (refused c) = refl
 quiet done = refl
 quiet (reply f) = refl
+
+-- what a command said is silent; a refusal has its code
+pub said-code : (r : Outcome) (said : Said) → r ≡ Ok said → success ≡ (silent (reply_of r [])).0
+unfolding silent
+said-code r Done e = rw e
+said-code r (Session id) e = rw e
+said-code r (Number n) e = rw e
+said-code r (Stat state size) e = rw e
+said-code r (Fields len) e = rw e
+
+pub refused-code : (r : Outcome) (code : Code) → r ≡ Err code → code.0 ≡ (silent (reply_of r [])).0
+unfolding silent
+refused-code r code e = rw e
 
 -- it is: what the flash session answered and left
 pub outcome-taken : (good : Bool) (s : State) → is_sound s ≡ true → (code : ℕ) (r : Reply) (s' : State) → (r, s') ≡ on_session OnFlash 0 (end_job good) s → code ≡ (silent r).0

@@ -5,7 +5,4 @@ use Rattle.blobs.proofs.respond.Goals as goal
 
 pub answer-requires : goal.answer-requires
 answer-requires c =
-    ap (λ (y : Bool). y && eqb (length c.args.answer.now) answer_size) c.sound.ensures
-
-pub returns : goal.returns
-returns c = c.answer.ensures
+    ap (λ (y : Bool). y && eqb (length c.args.answer.now) answer_size) c.is_sound.ensures
