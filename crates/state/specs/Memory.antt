@@ -1,5 +1,6 @@
 -- What a caller lends, as one value.
 use Rattle.std.specs.Prelude.{◌≡◌}
+use Rattle.std.proofs.Common.{refl, ◌∙◌}
 use Rattle.state.specs.State.{State, state_of}
 use Rattle.state.specs.declared.Memory.{Memory}
 
@@ -15,3 +16,16 @@ pub record SameMemory (old new : Memory) : Type 0 where
   pub staged : new.staged.ghost_name ≡ old.staged.ghost_name
   pub image : new.image.ghost_name ≡ old.image.ghost_name
   pub hash : new.hash.ghost_name ≡ old.hash.ghost_name
+
+pub same-memory : (m : Memory) → SameMemory m m
+same-memory m = record { table = refl; names = refl; committed = refl; staged = refl; image = refl; hash = refl }
+
+pub same-then : {l m n : Memory} → SameMemory l m → SameMemory m n → SameMemory l n
+same-then p q = record {
+  table = q.table ∙ p.table;
+  names = q.names ∙ p.names;
+  committed = q.committed ∙ p.committed;
+  staged = q.staged ∙ p.staged;
+  image = q.image ∙ p.image;
+  hash = q.hash ∙ p.hash;
+}

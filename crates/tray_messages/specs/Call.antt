@@ -1,21 +1,18 @@
 -- What a tray's code hands back, in the terms of its definition.
-use Rattle.std.specs.Prelude.{List, ℕ, ◌^◌, length}
+use Rattle.std.specs.Prelude.{List, ℕ, ◌^◌, length, Result, Ok, Err}
 use Rattle.std.proofs.lemmas.List.Edits.{sets}
-use Rattle.state.specs.State.{state_of}
+use Rattle.protocol.specs.Numbers.{success}
+use Rattle.protocol.specs.declared.Code.{Code}
+use Rattle.state.specs.Memory.{state_in}
+use Rattle.state.specs.declared.Memory.{Memory}
 use Rattle.rules.specs.Respond.{Effect, Served}
 use Rattle.tray.specs.Tray.{Tray}
-use Rattle.tray_messages.specs.declared.Answered.{Answered}
+use Rattle.tray_messages.specs.declared.Done.{Done}
 
--- a reply of the code, then table, names, committed, staged, image, hash, responses and results as they are after it
-abbrev pub tray_of : Answered → (table names committed staged image hash responses results : List ℕ) → Tray
-tray_of r t n c g i h a w = record {
-  code = r.code.0;
-  done = r.done;
-  len = r.len;
-  state = state_of r.control t n c g i h;
-  responses = a;
-  results = w;
-}
+-- what the code answered, or the code of a refusal, then what was lent, responses and results as they are after it
+abbrev pub tray_of : Result Done Code → Memory → (responses results : List ℕ) → Tray
+tray_of (Ok d) m a w = record { code = success; done = d.messages; len = d.len; state = state_in m; responses = a; results = w }
+tray_of (Err code) m a w = record { code = code.0; done = 0; len = 0; state = state_in m; responses = a; results = w }
 
 -- what one message leaves, its response written at a place of the buffer a
 abbrev pub served_at : Effect → (responses : List ℕ) (at : ℕ) → Served
