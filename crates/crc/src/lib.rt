@@ -52,10 +52,8 @@ fn crc16_from(start: u16, s: &[u8]) -> u16
 {
     let t = TABLE;
     let mut r = start;
-    let mut i: usize = 0;
-    while i < s.len() {
-        r = step(&t, r, s[i]);
-        i += 1;
+    for &b in s {
+        r = step(&t, r, b);
     }
     r
 }

@@ -11,7 +11,7 @@ pub record Stored (d : List ℕ) (at : ℕ) (s : List ℕ) (i : ℕ) (x : List �
   pub long : length x ≡ length d
   pub is : x ≡ paste d at s i
 
-pub pasted : (d : List ℕ) (at : ℕ) (s : List ℕ) → at + length s ≤ length d → paste d at s (length s) ≡ sets d at s
+pub pasted : {A : Type 0} (d : List A) (at : ℕ) (s : List A) → at + length s ≤ length d → paste d at s (length s) ≡ sets d at s
 pasted d at s h = paste-sets d at s (length s) h (omega arith) ∙ ap (sets d at) (take_all (length s) s (omega arith))
 
 module _ (d : List ℕ) (at : ℕ) (s : List ℕ) where

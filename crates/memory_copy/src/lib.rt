@@ -1,19 +1,15 @@
-// Bytes stored into lent memory: copied, or cleared.
+// Values stored into lent memory: copied, or cleared.
 #![tactic(auto)]
 
 ghost use Rattle.std.specs.Prelude.{◌≡◌, ◌+◌, ◌≤◌, length, replicate};
 ghost use Rattle.std.proofs.lemmas.List.Edits.{sets};
 
-// The bytes src are stored into dst from `at` on.
-pub fn copy_at(dst: &mut [u8], at: usize, src: &[u8])
+// The values src are stored into dst from `at` on.
+pub fn copy_at<T: Copy>(dst: &mut [T], at: usize, src: &[T])
     requires { at + length src.now ≤ length dst.old }
     ensures { dst.new ≡ sets dst.old at src.now }
 {
-    let mut i: usize = 0;
-    while i < src.len() {
-        dst[at + i] = src[i];
-        i += 1;
-    }
+    dst[at..at + src.len()].copy_from_slice(src);
 }
 
 // n zeros are stored into dst from `at` on.
@@ -21,9 +17,5 @@ pub fn clear_at(dst: &mut [u8], at: usize, n: usize)
     requires { at + n ≤ length dst.old }
     ensures { dst.new ≡ sets dst.old at (replicate n 0) }
 {
-    let mut i: usize = 0;
-    while i < n {
-        dst[at + i] = 0;
-        i += 1;
-    }
+    dst[at..at + n].fill(0);
 }

@@ -1,5 +1,6 @@
 pub mod Numbers
 pub mod Names
+pub mod Subcommands
 pub mod Decode
 pub mod Frame
 pub mod Cases

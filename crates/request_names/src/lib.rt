@@ -1,108 +1,77 @@
 // Names: equal bytes, the bytes before the first zero, store names, what a name names.
 #![tactic(auto)]
 
-ghost use Rattle.std.specs.Prelude.{◌≡◌, ℕ, ◌≤◌, length, get_or, drop};
-ghost use Rattle.laws.specs.All.{all};
+ghost use Rattle.std.specs.Prelude.{◌≡◌, ◌==◌, ◌≤◌, length, drop, position};
+ghost use Rattle.std.specs.List.{list_all};
+ghost use Rattle.std.specs.Char.{is_ascii_alphanumeric};
 ghost use Rattle.laws.specs.Bytes.{same, text, first_zero};
-ghost use Rattle.protocol.specs.Names.{alnum, store_name, name_form, blob_named};
+ghost use Rattle.protocol.specs.Names.{store_name, name_form, blob_named};
 
-use protocol::{BASE_SIZE, Blob, FlashKind, NAME_MOST, STORE_NAME_MOST};
+use protocol::{Blob, FlashKind, NAME_MOST, STORE_NAME_MOST};
 
 // Two slices hold the same bytes.
 pub fn same_bytes(a: &[u8], b: &[u8]) -> bool
     ensures { result ≡ same a.now b.now }
 {
-    if a.len() != b.len() {
-        return false;
-    }
-    let mut ok = true;
-    for i in 0..a.len() {
-        ok = ok & (a[i] == b[i]);
-    }
-    ok
+    a == b
+}
+
+// Where the first zero stands.
+fn zero_place(s: &[u8]) -> Option<usize>
+    ensures { result ≡ position (λ b. b == 0) s.now }
+{
+    s.iter().position(|b| *b == 0)
 }
 
 // How many bytes stand before the first zero.
 pub fn first_zero(s: &[u8]) -> usize
     ensures { (result ≡ first_zero s.now) × (result ≤ length s.now) }
 {
-    let mut i: usize = 0;
-    while i < s.len() {
-        if s[i] == 0 {
-            return i;
-        }
-        i += 1;
-    }
-    i
+    zero_place(s).unwrap_or(s.len())
 }
 
-// An ASCII letter or digit.
-fn is_alnum(b: u8) -> bool
-    ensures { result ≡ alnum b }
-{
-    ((b'0' <= b) & (b <= b'9')) | (((b'A' <= b) & (b <= b'Z')) | ((b'a' <= b) & (b <= b'z')))
-}
-
-// Nothing but letters and digits.
+// Nothing but ASCII letters and digits.
 fn all_alnum(s: &[u8]) -> bool
-    ensures { result ≡ all (λ (i : ℕ). alnum (get_or s.now i 0)) (length s.now) }
+    ensures { result ≡ list_all is_ascii_alphanumeric s.now }
 {
-    let mut ok = true;
-    for i in 0..s.len() {
-        ok = ok & is_alnum(s[i]);
-    }
-    ok
+    s.iter().all(u8::is_ascii_alphanumeric)
 }
 
 // `/scan/` and 1 to 25 letters or digits.
 pub fn store_name(n: &[u8]) -> bool
     ensures { result ≡ store_name n.now }
 {
-    if n.len() <= BASE_SIZE {
+    let Some(word) = n.strip_prefix(&protocol::BASE) else {
         return false;
-    }
-    if BASE_SIZE + STORE_NAME_MOST < n.len() {
-        return false;
-    }
-    let base = protocol::BASE;
-    same_bytes(&n[..BASE_SIZE], &base) & all_alnum(&n[BASE_SIZE..])
+    };
+    (1..=STORE_NAME_MOST).contains(&word.len()) && all_alnum(word)
 }
 
 // What a name names; it stands in the message from `at` on.
+#[tactic(auto, unfolding(protocol::specs::Names::blob_named, protocol::specs::Names::flash_folder, protocol::specs::Names::flash_word, protocol::specs::Names::base))]
 pub fn blob_named(at: usize, n: &[u8]) -> Blob
     ensures { result ≡ blob_named at n.now }
 {
     if store_name(n) {
-        return Blob::Store {
+        Blob::Store {
             start: at,
             len: n.len(),
-        };
+        }
+    } else if same_bytes(n, &protocol::FLASH_IMAGE) {
+        Blob::Flash(FlashKind::Image)
+    } else if same_bytes(n, &protocol::FLASH_HASH) {
+        Blob::Flash(FlashKind::Hash)
+    } else if same_bytes(n, &protocol::FLASH_VERIFY) {
+        Blob::Flash(FlashKind::Verify)
+    } else if same_bytes(n, &protocol::FLASH_UPDATE) {
+        Blob::Flash(FlashKind::Update)
+    } else if same_bytes(n, &protocol::FLASH_CLEANUP) {
+        Blob::Flash(FlashKind::Cleanup)
+    } else if same_bytes(n, &protocol::BASE) {
+        Blob::Base
+    } else {
+        Blob::Unknown
     }
-    let image = protocol::FLASH_IMAGE;
-    if same_bytes(n, &image) {
-        return Blob::Flash(FlashKind::Image);
-    }
-    let hash = protocol::FLASH_HASH;
-    if same_bytes(n, &hash) {
-        return Blob::Flash(FlashKind::Hash);
-    }
-    let verify = protocol::FLASH_VERIFY;
-    if same_bytes(n, &verify) {
-        return Blob::Flash(FlashKind::Verify);
-    }
-    let update = protocol::FLASH_UPDATE;
-    if same_bytes(n, &update) {
-        return Blob::Flash(FlashKind::Update);
-    }
-    let cleanup = protocol::FLASH_CLEANUP;
-    if same_bytes(n, &cleanup) {
-        return Blob::Flash(FlashKind::Cleanup);
-    }
-    let base = protocol::BASE;
-    if same_bytes(n, &base) {
-        return Blob::Base;
-    }
-    Blob::Unknown
 }
 
 // 1 to 31 characters, then the only NUL, to the end of the body.

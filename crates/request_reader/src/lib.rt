@@ -1,64 +1,46 @@
-// A reader of a message's body: it holds the lent bytes and the place of the next one. The functions over it are thin: each
-// takes it apart and leaves the work to a covered function on a slice and a number.
+// Numbers that stand in lent bytes, lowest byte first, and a reader of a message's body: it holds the lent bytes and the place
+// of the next one. Its methods only move that place; a function on a slice and a place reads the number.
 #![tactic(auto)]
 
-ghost use Rattle.std.specs.Prelude.{◌≡◌, ◌+◌, ◌<◌, ◌≤◌, ◌^◌};
+ghost use Rattle.std.specs.Prelude.{◌≡◌, ◌+◌, ◌<◌, ◌≤◌, ◌^◌, drop};
 ghost use Rattle.laws.specs.Bytes.{little};
 ghost use Rattle.request_reader.specs.Wire.{byte, le16, le32, onward, fields_of};
-
-fn wide16(x: u8) -> u16
-    ensures { result ≡ x }
-{
-    x as u16
-}
-
-fn wide32(x: u16) -> u32
-    ensures { result ≡ x }
-{
-    x as u32
-}
-
-fn wide8(x: u8) -> u32
-    ensures { result ≡ x }
-{
-    x as u32
-}
 
 // The byte at a place, and 0 past the end.
 pub fn u8_at(s: &[u8], at: usize) -> u8
     ensures { result ≡ byte s.now at }
 {
-    if at < s.len() { s[at] } else { 0 }
+    s.get(at).copied().unwrap_or(0)
+}
+
+// What stands from a place on: nothing past the end.
+fn rest_at(s: &[u8], at: usize) -> &[u8]
+    ensures { result.now ≡ drop at s.now }
+{
+    s.get(at..).unwrap_or(&[])
 }
 
 // The number of two bytes at a place.
 pub fn u16_at(s: &[u8], at: usize) -> u16
     ensures { result ≡ le16 s.now at }
 {
-    let low = wide16(u8_at(s, at));
-    if at < s.len() {
-        let high = wide16(u8_at(s, at + 1));
-        low + 256 * high
-    } else {
-        low
-    }
+    let rest = rest_at(s, at);
+    let low = u8_at(rest, 0);
+    let high = u8_at(rest, 1);
+    u16::from_le_bytes([low, high])
 }
 
 // The number of four bytes at a place.
 pub fn u32_at(s: &[u8], at: usize) -> u32
     ensures { result ≡ le32 s.now at }
 {
-    let low = wide32(u16_at(s, at));
-    if at < s.len() {
-        if at + 1 < s.len() {
-            let high = wide32(u16_at(s, at + 2));
-            low + 65536 * high
-        } else {
-            low
-        }
-    } else {
-        low
-    }
+    let rest = rest_at(s, at);
+    u32::from_le_bytes([
+        u8_at(rest, 0),
+        u8_at(rest, 1),
+        u8_at(rest, 2),
+        u8_at(rest, 3),
+    ])
 }
 
 // The number of n bytes at a place, lowest byte first.
@@ -67,10 +49,8 @@ fn number_at(s: &[u8], at: usize, n: usize) -> u32
     ensures { result ≡ little n at s.now }
 {
     let mut r: u32 = 0;
-    let mut i = n;
-    while 0 < i {
-        i -= 1;
-        r = wide8(u8_at(s, at + i)) + 256 * r;
+    for i in (0..n).rev() {
+        r = u32::from(u8_at(s, at + i)) + 256 * r;
     }
     r
 }

@@ -29,6 +29,7 @@ fn lent_right(
 }
 
 // Masks and next identifier are below 65,536.
+#[tactic(auto, unfolding(state::specs::Soundness::values_fit))]
 fn values_fit(control: Control) -> bool
     ensures { (t n c g i h : List ℕ) → result ≡ values_fit (state_of control t n c g i h) }
 {
@@ -37,6 +38,7 @@ fn values_fit(control: Control) -> bool
 }
 
 // Lengths of image and hash fit; in Idle both are 0.
+#[tactic(auto, unfolding(state::specs::Soundness::flash_fits, protocol::specs::Numbers::image_size, protocol::specs::Numbers::hash_size))]
 fn flash_fits(control: Control) -> bool
     ensures { (t n c g i h : List ℕ) → result ≡ flash_fits (state_of control t n c g i h).flash_group }
 {

@@ -11,11 +11,14 @@ use lib.ListN.{length, take, drop, replicate, length-drop, take-append-drop}
 use lib.Seq.{take_all, length-take-le, drop_at, take-add, drop-drop}
 use Rattle.laws.specs.All.{and-true}
 use Rattle.laws.specs.Bytes.{zeros, zeros-true, zeros-append, replicate-zeros, same, eq-same, ne_same, padded, padded-is, first_zero}
-use Rattle.laws.specs.Ranges.{part}
+use Rattle.laws.specs.Ranges.{part, lent-part}
 use Rattle.protocol.specs.Numbers.{name_size, slot_size}
 use Rattle.protocol.specs.Names.{store_name, store_field}
 use Rattle.state.specs.State.{Slot}
 use Rattle.state.specs.Soundness.{used_slot}
+
+-- a part that is lent
+pub ruleset parts = (lent-part)
 
 -- ---- a region by blocks of 1,024 bytes: the first j from a place on are zero
 unfoldable pub blocks_zero : ℕ → List ℕ → ℕ → Bool

@@ -10,10 +10,10 @@ ghost use Rattle.protocol.specs.Names.{store_field};
 ghost use Rattle.state.specs.State.{State, Slot, state_of, with_names};
 ghost use Rattle.state.specs.Soundness.{used_slot, unused_slot, slot_ok, names_apart};
 ghost use Rattle.state.specs.Lent.{TableLent, NamesLent, RegionsLent};
-ghost use Rattle.sound_slots.specs.Slots.{filled};
+ghost use Rattle.sound_slots.specs.Slots.{filled, names_same};
 
 use request_names::{first_zero, same_bytes, store_name};
-use sound_rows::has_writer;
+use sound_rows::{has_writer, none_clash};
 use state::mask::{bit_of, has};
 use state::{Control, NAME_SIZE, SLOT_SIZE, SLOTS};
 
@@ -22,13 +22,14 @@ fn all_zero(bytes: &[u8]) -> bool
     ensures { result ≡ zeros bytes.now }
 {
     let mut ok = true;
-    for i in 0..bytes.len() {
-        ok = ok & (bytes[i] == 0);
+    for &b in bytes {
+        ok = ok & (b == 0);
     }
     ok
 }
 
 // The n bytes from a place on are zero.
+#[tactic(auto, using(crate::proofs::Laws::parts))]
 fn zero_part(bytes: &[u8], at: usize, n: usize) -> bool
     requires { at + n ≤ length bytes.now }
     ensures { result ≡ zeros (part at n bytes.now) }
@@ -55,6 +56,7 @@ fn zero_region(bytes: &[u8], at: usize) -> bool
 }
 
 // The n bytes from one place on and from another are the same.
+#[tactic(auto, using(crate::proofs::Laws::parts))]
 fn same_part(bytes: &[u8], a: usize, b: usize, n: usize) -> bool
     requires { (a + n ≤ length bytes.now) × (b + n ≤ length bytes.now) }
     ensures { result ≡ same (part a n bytes.now) (part b n bytes.now) }
@@ -150,35 +152,15 @@ pub fn slots_ok(
     requires { TableLent table.now × (NamesLent names.now × (RegionsLent committed.now × RegionsLent staged.now)) }
     ensures { (i h : List ℕ) → result ≡ all (slot_ok (state_of control table.now names.now committed.now staged.now i h)) slot_count }
 {
-    let mut ok = true;
-    for k in 0..SLOTS {
-        ok = ok & slot_ok(control, table, names, committed, staged, k);
-    }
-    ok
+    (0..SLOTS).all(|k| slot_ok(control, table, names, committed, staged, k))
 }
 
-// Slots k and l are not used both, or have different names.
-fn names_apart(slots: u32, names: &[u8], k: usize, l: usize) -> bool
+// Slots k and l have one name.
+fn names_same(names: &[u8], k: usize, l: usize) -> bool
     requires { NamesLent names.now × ((k < slot_count) × (l < slot_count)) }
-    ensures { (s : State) → result ≡ names_apart (with_names slots names.now s) k l }
+    ensures { (slots : ℕ) (s : State) → result ≡ names_same (with_names slots names.now s) k l }
 {
-    let same = same_part(names, k * NAME_SIZE, l * NAME_SIZE, NAME_SIZE);
-    !(has(slots, k) & (has(slots, l) & same))
-}
-
-// Slot k and each slot before it.
-fn apart_from_lower(slots: u32, names: &[u8], k: usize) -> bool
-    requires { NamesLent names.now × (k < slot_count) }
-    ensures { (s : State) → result ≡ all (names_apart (with_names slots names.now s) k) k }
-{
-    if !has(slots, k) {
-        return true;
-    }
-    let mut ok = true;
-    for l in 0..k {
-        ok = ok & names_apart(slots, names, k, l);
-    }
-    ok
+    same_part(names, k * NAME_SIZE, l * NAME_SIZE, NAME_SIZE)
 }
 
 // No two used slots have one name.
@@ -186,9 +168,5 @@ pub fn all_names_apart(slots: u32, names: &[u8]) -> bool
     requires { NamesLent names.now }
     ensures { (s : State) → result ≡ pairs (names_apart (with_names slots names.now s)) slot_count }
 {
-    let mut ok = true;
-    for k in 0..SLOTS {
-        ok = ok & apart_from_lower(slots, names, k);
-    }
-    ok
+    none_clash(slots, SLOTS, |k, l| names_same(names, k, l))
 }

@@ -1,18 +1,24 @@
 -- `request_names::store_name` meets its contract. Assumes nothing.
-use Rattle.std.proofs.Common.{arith, length-take}
+use Rattle.std.proofs.Common.{◌≡◌, ◌≤◌, ◌<◌, ◌∙◌, ◌⊎◌, length, rules}
 use Rattle.protocol.specs.Names.{base}
-use Rattle.request_names.proofs.Names.{too_short, too_long, is_store}
+use Rattle.request_names.proofs.Names.{not_store, word_fits, word_misfits}
 use Rattle.request_names.proofs.store_name.Goals as goal
 
-pub returns-then-n-le-BASE_SIZE : goal.returns-then-n-le-BASE_SIZE
-returns-then-n-le-BASE_SIZE c = too_short _ (omega arith)
-
-pub returns-then-n : goal.returns-then-n
-returns-then-n c = too_long _ c.if-n.true
-
-pub slice_bounds-same_bytes-end : goal.slice_bounds-same_bytes-end
-slice_bounds-same_bytes-end c = simp length-take (omega arith)
-
-pub returns : goal.returns
+pub returns-in_default : goal.returns-in_default
 unfolding base
-returns c = is_store _ _ _ (omega arith) (omega arith) c.same_bytes.ensures c.all_alnum.ensures
+returns-in_default c = not_store _ c.in_default.ensures.cases
+
+pub returns-then-contains : goal.returns-then-contains
+unfolding base
+returns-then-contains c =
+    let low : 1 ≤ length c.in-Some.word.now = search rules in
+    let high : length c.in-Some.word.now ≤ 25 = search rules in
+    let h = c.in-Some.ensures.cases in
+    c.all_alnum.ensures ∙ word_fits _ _ h.0 h.1 h.2 low high
+
+pub returns-else-contains : goal.returns-else-contains
+unfolding base
+returns-else-contains c =
+    let out : (length c.in-Some.word.now < 1) ⊎ (25 < length c.in-Some.word.now) = search rules in
+    let h = c.in-Some.ensures.cases in
+    c.if-contains.false ∙ word_misfits _ _ h.0 h.1 h.2 out

@@ -4,7 +4,4 @@ use Rattle.laws.specs.Bytes.{little}
 use Rattle.request_reader.proofs.number_at.Given as goal
 
 abbrev pub invariant-loop-i : goal.invariant-loop-i
-invariant-loop-i l = (l.i ≤ l.n) × (l.r ≡ little (l.n - l.i) (l.at + l.i) l.s)
-
-abbrev pub decreases-loop-i : goal.decreases-loop-i
-decreases-loop-i l = l.i
+invariant-loop-i l = l.r ≡ little (l.n - l.i) (l.at + l.i) l.s

@@ -1,14 +1,7 @@
--- `request_reader::u32_at` meets its contract: past the end the two high bytes are 0.
--- Assumes nothing.
-use Rattle.std.proofs.Common.{◌+◌, arith, rules}
-use Rattle.request_reader.proofs.Little.{four, past}
+-- `request_reader::u32_at` meets its contract: four bytes of what stands from the place on. Assumes nothing.
+use Rattle.std.proofs.Common.{◌∙◌}
+use Rattle.request_reader.proofs.Little.{four_ahead}
 use Rattle.request_reader.proofs.u32_at.Goals as goal
 
-pub returns-then-at-s-2 : goal.returns-then-at-s-2
-returns-then-at-s-2 c = rw four (search rules)
-
-pub returns-else-at-s-2 : goal.returns-else-at-s-2
-returns-else-at-s-2 c = rw four (omega (arith, past 2 c.args.s.now (c.args.at + 2) (omega arith)))
-
-pub returns-else-at-s : goal.returns-else-at-s
-returns-else-at-s c = rw four (omega (arith, past 2 c.args.s.now (c.args.at + 2) (omega arith)))
+pub returns : goal.returns
+returns c = c.from_le_bytes.ensures ∙ rw (c.u8_at.ensures, c.u8_at-2.ensures, c.u8_at-3.ensures, c.u8_at-4.ensures, c.rest_at-rest.ensures) (four_ahead _ _)

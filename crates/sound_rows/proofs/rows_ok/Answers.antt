@@ -1,19 +1,14 @@
--- `rows_ok`: the loop carries the answer for the rows passed.
-use Rattle.std.proofs.Common.{arith}
-use Rattle.laws.specs.All.{all_start, all-step, all_end}
+-- `rows_ok`: each row is right.
+use Rattle.std.proofs.Common.{◌≡◌, true, false, refl, rules}
+use Rattle.std.proofs.lemmas.Iterator.{cases_from_all, YieldsList-from_range}
+use Rattle.state.specs.Soundness.{row_ok}
+use Rattle.state.specs.State.{state_of}
+use Rattle.sound_rows.proofs.Below.{all_from_range}
 use Rattle.sound_rows.proofs.rows_ok.Goals as goal
 
-pub loop-r-init : goal.loop-r-init
-loop-r-init c = (omega arith, λ n cm g i h. all_start _)
-
-pub row_ok-ok-requires : goal.row_ok-ok-requires
-row_ok-ok-requires c = omega arith
-
-pub loop-r-smaller : goal.loop-r-smaller
-loop-r-smaller c = omega arith
-
-pub loop-r-preserved : goal.loop-r-preserved
-loop-r-preserved c = (omega arith, λ n cm g i h. all-step _ _ _ _ (c.loop-r.invariant.1 n cm g i h) (c.row_ok-ok.ensures n cm g i h))
-
 pub returns : goal.returns
-returns c = λ n cm g i h. all_end _ _ _ _ (omega arith) (omega arith) (c.loop-r.invariant.1 n cm g i h)
+returns c =
+    λ n m g i h.
+    let p = row_ok (state_of c.args.control c.args.table.now n m g i h) in
+    all_from_range p 16 _
+    (cases_from_all _ _ _ (λ r. p r ≡ true) (λ r. p r ≡ false) c.all.ensures.ran (YieldsList-from_range 0 16 16 refl refl) (λ x q k. search rules) (λ x q k. search rules))

@@ -1,19 +1,16 @@
--- `all_names_apart`: the loop carries the answer for the pairs of the slots passed.
-use Rattle.std.proofs.Common.{arith}
-use Rattle.laws.specs.All.{pairs_start, pairs-row, pairs_end}
+-- `all_names_apart`: no two slots in use have one name.
+use Rattle.std.proofs.Common.{◌≡◌, refl, ◌∙◌, rules}
+use Rattle.laws.specs.All.{pairs}
+use Rattle.state.specs.Soundness.{names_apart}
+use Rattle.state.specs.State.{State, with_names}
+use Rattle.sound_rows.specs.Clash.{apart_by}
+use Rattle.sound_rows.proofs.Below.{pairs-ext}
+use Rattle.sound_slots.specs.Slots.{names_same}
 use Rattle.sound_slots.proofs.all_names_apart.Goals as goal
 
-pub loop-k-init : goal.loop-k-init
-loop-k-init c = (omega arith, λ s. pairs_start _)
-
-pub apart_from_lower-ok-requires : goal.apart_from_lower-ok-requires
-apart_from_lower-ok-requires c = omega arith
-
-pub loop-k-smaller : goal.loop-k-smaller
-loop-k-smaller c = omega arith
-
-pub loop-k-preserved : goal.loop-k-preserved
-loop-k-preserved c = (omega arith, λ s. pairs-row _ _ _ _ (c.loop-k.invariant.1 s) (c.apart_from_lower-ok.ensures s))
+as_pairs : (s : State) → pairs (apart_by s.store.slots (names_same s)) 16 ≡ pairs (names_apart s) 16
+unfolding names_apart names_same
+as_pairs s = pairs-ext _ _ _ (λ i j. refl)
 
 pub returns : goal.returns
-returns c = λ s. pairs_end _ _ _ _ (omega arith) (omega arith) (c.loop-k.invariant.1 s)
+returns c = λ s. c.none_clash.ensures (names_same (with_names c.args.slots c.args.names.now s)) (λ i j r l k post. search rules) ∙ as_pairs _

@@ -5,10 +5,7 @@ use Rattle.sound_slots.proofs.Laws.{blocks_start, blocks_more, blocks_end}
 use Rattle.sound_slots.proofs.zero_region.Goals as goal
 
 pub loop-j-init : goal.loop-j-init
-loop-j-init c = (omega arith, blocks_start _ _)
-
-pub overflow_mul-j : goal.overflow_mul-j
-overflow_mul-j c = omega arith
+loop-j-init c = blocks_start _ _
 
 pub overflow_add-at : goal.overflow_add-at
 unfolding slot_size
@@ -18,11 +15,8 @@ pub zero_part-ok-requires : goal.zero_part-ok-requires
 unfolding slot_size
 zero_part-ok-requires c = omega arith
 
-pub loop-j-smaller : goal.loop-j-smaller
-loop-j-smaller c = omega arith
-
 pub loop-j-preserved : goal.loop-j-preserved
-loop-j-preserved c = (omega arith, blocks_more _ _ _ _ _ c.loop-j.invariant.1 c.zero_part-ok.ensures)
+loop-j-preserved c = blocks_more _ _ _ _ _ c.loop-j.invariant c.zero_part-ok.ensures
 
 pub returns : goal.returns
-returns c = blocks_end _ _ _ _ c.loop-j.invariant.1 (omega arith)
+returns c = blocks_end _ _ _ _ c.loop-j.invariant (omega arith)

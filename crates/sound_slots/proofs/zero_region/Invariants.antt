@@ -1,10 +1,7 @@
 -- `zero_region`: the loop carries the answer for the blocks passed.
-use Rattle.std.proofs.Common.{◌≡◌, ◌≤◌, ◌-◌}
+use Rattle.std.proofs.Common.{◌≡◌}
 use Rattle.sound_slots.proofs.Laws.{blocks_zero}
 use Rattle.sound_slots.proofs.zero_region.Given as goal
 
 abbrev pub invariant-loop-j : goal.invariant-loop-j
-invariant-loop-j l = (l.j ≤ 4) × (l.ok ≡ blocks_zero l.at l.bytes l.j)
-
-abbrev pub decreases-loop-j : goal.decreases-loop-j
-decreases-loop-j l = 4 - l.j
+invariant-loop-j l = l.ok ≡ blocks_zero l.at l.bytes l.j
