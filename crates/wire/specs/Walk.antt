@@ -1,8 +1,8 @@
 -- A message from front to back: its fields up to the end, or up to the first fault.
-use Rattle.std.specs.Prelude.{cond, List, [], ◌∷◌, ℕ, zero, suc, ◌-◌, eqb, ltb}
+use Rattle.std.specs.Prelude.{Result, Ok, Err, cond, List, [], ◌∷◌, ℕ, zero, suc, ◌-◌, eqb, ltb}
+use Rattle.protocol.specs.declared.Code.{Code}
 use Rattle.laws.specs.Ranges.{part}
 use Rattle.wire.specs.declared.Field.{Field}
-use Rattle.wire.specs.declared.Field.TheVariants.{Whole, Fault}
 use Rattle.wire.specs.Fields.{KeyRule, field_at}
 
 -- a whole field: its number, its wire type, and where its value starts and stops (rule 22.9)
@@ -26,11 +26,11 @@ abbrev pub before : Item → Walked → Walked
 before i w = record { items = i ∷ w.items; fault = w.fault }
 
 -- a field, then what is wrong inside it (0: nothing), then the walk behind it (rule 22.9)
-unfoldable pub onward : (Item → ℕ) → Field → (ℕ → Walked) → Walked
-onward inside (Fault f) rest = stopped f
-onward inside (Whole n k start next) rest =
-    let i : Item = record { number = n; kind = k; start = start; stop = next } in
-    cond (eqb (inside i) 0) (before i (rest next)) (stopped (inside i))
+unfoldable pub onward : (Item → ℕ) → Result Field Code → (ℕ → Walked) → Walked
+onward inside (Err c) rest = stopped c.0
+onward inside (Ok f) rest =
+    let i : Item = record { number = f.number; kind = f.kind; start = f.start; stop = f.next } in
+    cond (eqb (inside i) 0) (before i (rest f.next)) (stopped (inside i))
 
 -- at most m fields of s from the place `at` to `end` (rules 22.1 and 22.9)
 unfoldable pub walk_in : KeyRule → (Item → ℕ) → ℕ → List ℕ → ℕ → ℕ → Walked

@@ -7,25 +7,30 @@ use native.Mathlib.Omega.{arith}
 use lib.Dec.{eqb}
 use borrow.Author.Tests.{eq-eqb, ne_eqb}
 use lib.ListN.{length}
+use Rattle.std.specs.Prelude.{Ok, Err}
+use Rattle.protocol.specs.declared.Code.{Code}
 use Rattle.laws.specs.Ranges.{part}
-use Rattle.wire.specs.declared.Field.TheVariants.{Fault}
 use Rattle.wire.specs.Fields.{store_keys, field_at}
+use Rattle.wire.specs.Verdict.{verdict}
+use Rattle.wire.proofs.Verdicts.{verdict-good, verdict-bad, fault-coded}
 use Rattle.wire.specs.Walk.{Item, Walked, walk, last_from, last}
 use Rattle.wire.proofs.Steps.{Here, here-span, here-within, step_end, step-fault, step-on}
 use Rattle.wire_reader.specs.Last.{LastIs}
 
 -- a fault stands there
-pub record Faulty (s : List ℕ) (at end code : ℕ) : Type 0 where
+pub record Faulty (s : List ℕ) (at end : ℕ) (code : Code) : Type 0 where
   pub inside : at < end
-  pub field : field_at store_keys s at end ≡ Fault code
+  pub field : field_at store_keys s at end ≡ Err code
 
 -- ---- the first fault
 module _ (s : List ℕ) (from end at : ℕ) (h : (walk store_keys s from end).fault ≡ (walk store_keys s at end).fault) where
-  pub fault-end : end ≤ at → 0 ≡ (walk store_keys s from end).fault
-  fault-end l = sym (h ∙ ap (λ (w : Walked). w.fault) (step_end store_keys (λ (i : Item). 0) s at end l))
+  pub fault-end : end ≤ at → Ok tt ≡ verdict (walk store_keys s from end).fault
+  fault-end l = verdict-good _ (h ∙ ap (λ (w : Walked). w.fault) (step_end store_keys (λ (i : Item). 0) s at end l))
 
-  pub fault-found : {c : ℕ} → Faulty s at end c → c ≡ (walk store_keys s from end).fault
-  fault-found {c} x = sym (h ∙ ap (λ (w : Walked). w.fault) (step-fault store_keys (λ (i : Item). 0) s at end c x.inside x.field))
+  pub fault-found : {c : Code} → Faulty s at end c → Err c ≡ verdict (walk store_keys s from end).fault
+  fault-found {c} x =
+      verdict-bad c _ (sym (h ∙ ap (λ (w : Walked). w.fault) (step-fault store_keys (λ (i : Item). 0) s at end c.0 x.inside x.field)))
+      (fault-coded store_keys s at end c x.field)
 
   pub fault-on : {n k start next : ℕ} → Here store_keys s at end n k start next → (walk store_keys s from end).fault ≡ (walk store_keys s next end).fault
   fault-on {n} {k} {start} {next} x = h ∙ ap (λ (w : Walked). w.fault) (step-on store_keys (λ (i : Item). 0) s at end n k start next x.inside x.field refl)
@@ -48,12 +53,12 @@ module _ {s : List ℕ} {from end wanted at first stop : ℕ} (h : Lasts s from 
   unfolding last_from
   last_end l = record { ordered = h.ordered; inside = h.inside; value = sym (h.value ∙ ap rest (step_end store_keys (λ (i : Item). 0) s at end l)) }
 
-  pub last-fault : {c : ℕ} → Faulty s at end c → LastIs s from end wanted first stop
+  pub last-fault : {c : Code} → Faulty s at end c → LastIs s from end wanted first stop
   unfolding last_from
   last-fault {c} x = record {
     ordered = h.ordered;
     inside = h.inside;
-    value = sym (h.value ∙ ap rest (step-fault store_keys (λ (i : Item). 0) s at end c x.inside x.field));
+    value = sym (h.value ∙ ap rest (step-fault store_keys (λ (i : Item). 0) s at end c.0 x.inside x.field));
   }
 
   module _ {n k start next : ℕ} (x : Here store_keys s at end n k start next) where
