@@ -17,7 +17,7 @@ use Rattle.wire.specs.declared.Field.{Field}
 use Rattle.wire.specs.declared.Field.TheVariants.{Whole, Fault}
 use Rattle.wire.specs.Base128.{number_at}
 use Rattle.wire.specs.Fields.{number_type, eight_type, four_type, bytes_type, readable, numbered, fixed, measured, value_at, KeyRule, keyed, field_at, misfit, known, store_keys}
-use Rattle.wire.specs.Walk.{Item, Walked, stopped, before, onward, walk_in}
+use Rattle.wire.specs.Walk.{Walked, stopped, before, onward, walk_in}
 use Rattle.store_file.specs.Messages.{Scan, Reading, reading, blob_field, inside}
 use Rattle.store_file.specs.Saved.{Saved, Call, scans_of, contents, part_of, buffer_size, saved_into}
 use Rattle.store_file.specs.Loaded.{every, different, reason, store_open, Loaded, loaded}
@@ -89,12 +89,12 @@ module _ (rule : KeyRule) (ruled : (n k : ℕ) → InWire (rule n k)) where
   unfolding field_at
   field-code s at end = keyed-code s end (number_at s at end)
 
-  module _ (look : Item → ℕ) (looked : (i : Item) → InWire (look i)) where
+  module _ (look : Field → ℕ) (looked : (i : Field) → InWire (look i)) where
     onward-code : (f : Field) (rest : ℕ → Walked) → FieldIn f → ((next : ℕ) → InWire (rest next).fault) → InWire (onward look f rest).fault
     unfolding onward
     onward-code (Fault c) rest h g = h
     onward-code (Whole n k start next) rest h g =
-        let i : Item = record { number = n; kind = k; start = start; stop = next } in
+        let i : Field = record { number = n; kind = k; start = start; next = next } in
         either (λ (w : Walked). InWire w.fault) (eqb (look i) 0) (before i (rest next)) (stopped (look i)) (g next) (looked i)
 
     walk_code : (m : ℕ) (s : List ℕ) (at end : ℕ) → InWire (walk_in rule look m s at end).fault
@@ -105,9 +105,9 @@ module _ (rule : KeyRule) (ruled : (n k : ℕ) → InWire (rule n k)) where
         (onward-code (field_at rule s at end) (λ (next : ℕ). walk_in rule look m s next end) (field-code s at end) (λ (next : ℕ). walk_code m s next end)) refl
 
 -- ---- a file
-inside-code : (f : List ℕ) (i : Item) → InWire (inside f i)
+inside-code : (f : List ℕ) (i : Field) → InWire (inside f i)
 inside-code f i =
-    either InWire (eqb i.number blob_field) _ _ (walk_code store_keys (known-code 2) (λ (j : Item). 0) (λ (j : Item). refl) (i.stop - i.start) f i.start i.stop) refl
+    either InWire (eqb i.number blob_field) _ _ (walk_code store_keys (known-code 2) (λ (j : Field). 0) (λ (j : Field). refl) (i.next - i.start) f i.start i.next) refl
 
 -- THE FAULT THAT READING FINDS, in any bytes, is none or one of the five of the wire format
 pub reading-code : (f : List ℕ) → one_of (reading f).fault wire_codes ≡ true

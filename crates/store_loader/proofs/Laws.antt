@@ -18,7 +18,6 @@ use Rattle.state.specs.declared.row.Place.TheVariants.{AtSlot}
 use Rattle.state.specs.State.{State, state_of, in_store, in_body}
 use Rattle.state.specs.Words.{fresh}
 use Rattle.state.specs.Soundness.{is_sound}
-use Rattle.wire.specs.Walk.{Item}
 use Rattle.wire_reader.specs.Last.{LastIs}
 use Rattle.store_file.specs.Messages.{Scan, store_in, scans_at, reading}
 use Rattle.store_file.specs.Loaded.{every, store_open, reason, slot_with, filled_from, stored, refused, loaded}
@@ -141,7 +140,7 @@ clean f q = no-fault (store_in f).fault _ q
 
 pub clean-storable : (f : List ℕ) → reason (reading f) ≡ success → Storable (scans_from f 0)
 unfolding reading
-clean-storable f q = subst (λ (is : List Item). Storable (scans_at f is)) (clean-items f (clean f q)) (storable (reading f) q)
+clean-storable f q = subst (λ (is : List Field). Storable (scans_at f is)) (clean-items f (clean f q)) (storable (reading f) q)
 
 module _ (f : List ℕ) (s : State) where
   pub load-unsound : is_sound s ≡ false → refused not_sound s ≡ loaded f s
@@ -161,5 +160,5 @@ module _ (f : List ℕ) (s : State) where
       pub load_stored : reason (reading f) ≡ success → record { code = success; state = filling 0 (scans_from f 0) (in_store.put fresh.store s) } ≡ loaded f s
       unfolding loaded stored reading
       load_stored q =
-          ap (λ (is : List Item). record { code = success; state = in_store.put (filled_from 0 (scans_at f is) fresh.store) s }) (sym (clean-items f (clean f q)))
+          ap (λ (is : List Field). record { code = success; state = in_store.put (filled_from 0 (scans_at f is) fresh.store) s }) (sym (clean-items f (clean f q)))
           ∙ sym (rw (h, o, q))

@@ -13,7 +13,7 @@ use Rattle.wire.specs.declared.Field.{Field}
 use Rattle.wire.specs.Base128.{number_at}
 use Rattle.wire.proofs.NumberLaws.{number-place}
 use Rattle.wire.specs.Fields.{whole, faulty, number_type, eight_type, bytes_type, four_type, readable, numbered, fixed, measured, value_at, KeyRule, keyed, field_at}
-use Rattle.wire.specs.Walk.{Item, Walked, stopped, before, onward, walk_in}
+use Rattle.wire.specs.Walk.{Walked, stopped, before, onward, walk_in}
 
 -- a value stands behind the place `at` and before the message's end
 pub record Placed (at end start next : ℕ) : Type 0 where
@@ -103,7 +103,7 @@ module _ {rule : KeyRule} {s : List ℕ} {at end n k start next : ℕ} (x : Here
   here-less = omega (arith, x.inside, here-ahead, here-span, here-within)
 
 -- ---- how many fields are allowed does not matter, if they are as many as the bytes
-pub walk-count : (rule : KeyRule) (inside : Item → ℕ) (m m' : ℕ) (s : List ℕ) (at end : ℕ) → end - at ≤ m → end - at ≤ m'
+pub walk-count : (rule : KeyRule) (inside : Field → ℕ) (m m' : ℕ) (s : List ℕ) (at end : ℕ) → end - at ≤ m → end - at ≤ m'
     → walk_in rule inside m s at end ≡ walk_in rule inside m' s at end
 unfolding walk_in onward
 walk-count rule inside zero zero s at end h h' = refl
@@ -126,7 +126,7 @@ walk-count rule inside (suc m) (suc m') s at end h h' = go (dec_lt at end) (λ (
     go (no l) ih = rw (le-ltb at end (omega arith))
 
 -- ---- one step of a walk whose count is the bytes left
-module _ (rule : KeyRule) (inside : Item → ℕ) (s : List ℕ) (at end : ℕ) where
+module _ (rule : KeyRule) (inside : Field → ℕ) (s : List ℕ) (at end : ℕ) where
   abbrev pub from : ℕ → Walked
   from x = walk_in rule inside (end - x) s x end
 
@@ -148,15 +148,15 @@ module _ (rule : KeyRule) (inside : Item → ℕ) (s : List ℕ) (at end : ℕ) 
   step-fault c l e = left l ∙ rw e
 
   module _ (n k start next : ℕ) (l : at < end) (e : field_at rule s at end ≡ whole n k start next) where
-    pub step-on : inside (record { number = n; kind = k; start = start; stop = next }) ≡ 0
-        → from at ≡ before (record { number = n; kind = k; start = start; stop = next }) (from next)
+    pub step-on : inside (record { number = n; kind = k; start = start; next = next }) ≡ 0
+        → from at ≡ before (record { number = n; kind = k; start = start; next = next }) (from next)
     unfolding onward
     step-on z =
         let p = field-place rule s at end n k start next e in
         left l ∙ rw (e, z)
-        (ap (before (record { number = n; kind = k; start = start; stop = next }))
+        (ap (before (record { number = n; kind = k; start = start; next = next }))
         (walk-count rule inside (end - at - 1) (end - next) s next end (omega (arith, p.ahead, p.span, p.within)) (omega arith)))
 
-    pub step-inside : (c : ℕ) → inside (record { number = n; kind = k; start = start; stop = next }) ≡ c → (c ≡ 0 → ⊥) → from at ≡ stopped c
+    pub step-inside : (c : ℕ) → inside (record { number = n; kind = k; start = start; next = next }) ≡ c → (c ≡ 0 → ⊥) → from at ≡ stopped c
     unfolding onward
     step-inside c z q = left l ∙ rw (e, z, ne_eqb c 0 q)

@@ -4,3 +4,4 @@ pub mod Walk
 pub mod Written
 pub mod Forms
 pub mod Verdict
+pub mod Numbered

@@ -6,7 +6,9 @@ ghost use Rattle.wire.specs.Base128.{number_at};
 ghost use Rattle.wire.specs.Fields.{store_keys, fixed, value_at, field_at};
 ghost use Rattle.wire.specs.Verdict.{verdict};
 ghost use Rattle.wire.specs.Walk.{walk};
+ghost use Rattle.std.specs.Iterator.{YieldsFirst, item_count};
 ghost use Rattle.wire_reader.specs.Last.{LastIs};
+ghost use Rattle.wire.specs.Numbered.{fields_from};
 
 use protocol::Code;
 use wire::{Field, Number};
@@ -121,6 +123,49 @@ pub fn fault_in(s: &[u8], from: usize, end: usize) -> Result<(), Code>
     Ok(())
 }
 
+// The fields of one number in a message, in their order, up to its end or its first fault.
+#[derive(Clone, Copy)]
+pub struct Fields<'a> {
+    pub s: &'a [u8],
+    pub at: usize,
+    pub end: usize,
+    pub wanted: u64,
+    pub ghost inside: { end ≤ length s.now },
+}
+
+impl<'a> Fields<'a> {
+    pub fn new(s: &'a [u8], from: usize, end: usize, wanted: u64) -> Fields<'a>
+        requires { end ≤ length s.now }
+        ensures { fields_from result.s.now result.at result.end result.wanted ≡ fields_from s.now from end wanted }
+    {
+        Fields {
+            s,
+            at: from,
+            end,
+            wanted,
+        }
+    }
+}
+
+impl<'a> Iterator for Fields<'a> {
+    type Item = Field;
+
+    ghost next_gives = { YieldsFirst (λ f. fields_from f.s.now f.at f.end f.wanted) };
+
+    ghost remaining = { item_count (λ f. fields_from f.s.now f.at f.end f.wanted) };
+
+    fn next(&mut self) -> Option<Field> {
+        while self.at < self.end {
+            let field = field_at(self.s, self.at, self.end).ok()?;
+            self.at = field.next;
+            if field.number == self.wanted {
+                return Some(field);
+            }
+        }
+        None
+    }
+}
+
 // A part of the buffer.
 #[derive(Clone, Copy)]
 pub struct Span {
@@ -133,17 +178,10 @@ pub fn last_field(s: &[u8], from: usize, end: usize, wanted: u64) -> Span
     requires { end ≤ length s.now }
     ensures { LastIs s.now from end wanted result.start result.end }
 {
-    let mut at = from;
     let mut last = Span { start: 0, end: 0 };
-    while at < end {
-        let Ok(field) = field_at(s, at, end) else {
-            return last;
-        };
-        if field.number == wanted {
-            last.start = field.start;
-            last.end = field.next;
-        }
-        at = field.next;
+    for field in Fields::new(s, from, end, wanted) {
+        last.start = field.start;
+        last.end = field.next;
     }
     last
 }

@@ -1,0 +1,118 @@
+-- The fields of one number, one after the other. Assumes nothing.
+use Rattle.std.specs.Prelude.{◌≡◌, refl, Result, Ok, Err, Bool, true, false, cond, List, [], ◌∷◌, ℕ, zero, suc, ◌-◌, ◌≤◌, eqb, ltb, length}
+use Rattle.std.proofs.Common.{sym, ◌∙◌, ap, arith, eq-eqb, ne_eqb, eqb-true}
+use Rattle.protocol.specs.declared.Code.{Code}
+use Rattle.laws.specs.Merge.{All}
+use Rattle.laws.specs.Ranges.{part}
+use Rattle.wire.specs.declared.Field.{Field}
+use Rattle.wire.proofs.Steps.{Placed, field-place, Here, step_end, step-fault, step-on}
+use Rattle.wire.specs.Fields.{store_keys, field_at}
+use Rattle.wire.specs.Walk.{Walked, stopped, onward, walk_in, walk, bytes_at, last_from, last}
+use Rattle.wire_reader.proofs.WalkWays.{Faulty}
+use Rattle.wire_reader.specs.Last.{LastIs}
+use Rattle.wire.specs.Numbered.{of_number, fields_from}
+
+-- ---- step by step
+module _ (s : List ℕ) (at end n : ℕ) where
+  -- the fields that a walk finds
+  abbrev found : Walked → List Field
+  found w = of_number n w.items
+
+  pub left-end : end ≤ at → fields_from s at end n ≡ []
+  left-end l = ap found (step_end store_keys (λ (i : Field). 0) s at end l)
+
+  pub left-fault : {c : Code} → Faulty s at end c → fields_from s at end n ≡ []
+  left-fault {c} x = ap found (step-fault store_keys (λ (i : Field). 0) s at end c.0 x.inside x.field)
+
+  module _ {f : Field} (x : Here store_keys s at end f.number f.kind f.start f.next) where
+    step : fields_from s at end n ≡ cond (eqb f.number n) (f ∷ fields_from s f.next end n) (fields_from s f.next end n)
+    step = ap found (step-on store_keys (λ (i : Field). 0) s at end f.number f.kind f.start f.next x.inside x.field refl)
+
+    pub left-hit : f.number ≡ n → fields_from s at end n ≡ f ∷ fields_from s f.next end n
+    left-hit q = step ∙ rw (eq-eqb f.number n q)
+
+    pub left-miss : (f.number ≡ n → ⊥) → fields_from s at end n ≡ fields_from s f.next end n
+    left-miss q = step ∙ rw (ne_eqb f.number n q)
+
+-- ---- what is known of each of them, and how many they are
+-- a field of number n stands in the message that ends at `end`
+pub record Stands (n end : ℕ) (f : Field) : Type 0 where
+  pub number : f.number ≡ n
+  pub span : f.start ≤ f.next
+  pub within : f.next ≤ end
+
+-- so do several, of which there are at most `most`
+pub record AllStand (n end most : ℕ) (fs : List Field) : Type 0 where
+  pub few : length fs ≤ most
+  pub each : All (Stands n end) fs
+
+module _ (s : List ℕ) (end n : ℕ) where
+  stand-in : (m at : ℕ) → AllStand n end (end - at) (of_number n (walk_in store_keys (λ (i : Field). 0) m s at end).items)
+  unfolding walk_in onward
+  stand-in zero at = record { few = omega arith; each = tt }
+  stand-in (suc m) at = go (ltb at end) (field_at store_keys s at end) refl refl (λ (next : ℕ). stand-in m next)
+    where
+      Stood : List Field → Type 0
+      Stood fs = AllStand n end (end - at) fs
+
+      Later : Type 0
+      Later = (next : ℕ) → AllStand n end (end - next) (of_number n (walk_in store_keys (λ (i : Field). 0) m s next end).items)
+
+      one : (f : Field) (b : Bool) → eqb f.number n ≡ b → Placed at end f.start f.next → (fs : List Field) → AllStand n end (end - f.next) fs → Stood (cond b (f ∷ fs) fs)
+      one f true q p fs h = record { few = omega (arith, h.few, p.ahead, p.span, p.within); each = (record { number = eqb-true f.number n q; span = p.span; within = p.within }, h.each) }
+      one f false q p fs h = record { few = omega (arith, h.few, p.ahead, p.span, p.within); each = h.each }
+
+      go : (b : Bool) (f : Result Field Code) → ltb at end ≡ b → field_at store_keys s at end ≡ f → Later
+          → Stood (of_number n (cond b (onward (λ (i : Field). 0) f (λ (next : ℕ). walk_in store_keys (λ (i : Field). 0) m s next end)) (stopped 0)).items)
+      go false f p e ih = record { few = omega arith; each = tt }
+      go true (Err c) p e ih = record { few = omega arith; each = tt }
+      go true (Ok f) p e ih = one f (eqb f.number n) refl (field-place store_keys s at end f.number f.kind f.start f.next e) _ (ih f.next)
+
+  -- THE FIELDS OF A NUMBER STAND IN THEIR MESSAGE
+  pub all-stand : (at : ℕ) → AllStand n end (end - at) (fields_from s at end n)
+  all-stand at = stand-in (end - at) at
+
+-- ---- the last of them
+-- what is found so far, and what is left: the part from `first` to `stop` is the last value before these fields
+pub record Lasts (s : List ℕ) (from end wanted first stop : ℕ) (fs : List Field) : Type 0 where
+  pub ordered : first ≤ stop
+  pub inside : stop ≤ length s
+  pub value : last s wanted (walk store_keys s from end).items ≡ last_from s wanted (part first (stop - first) s) fs
+  pub stand : All (Stands wanted end) fs
+
+-- fields of other numbers do not count
+last-of-number : (s : List ℕ) (n : ℕ) (b : List ℕ) (fs : List Field) → last_from s n b fs ≡ last_from s n b (of_number n fs)
+unfolding last_from
+last-of-number s n b [] = refl
+last-of-number s n b (f ∷ fs) = go (eqb f.number n) refl (λ (w : List ℕ). last-of-number s n w fs)
+  where
+    go : (y : Bool) → eqb f.number n ≡ y → ((w : List ℕ) → last_from s n w fs ≡ last_from s n w (of_number n fs))
+        → last_from s n (cond y (bytes_at s f) b) fs ≡ last_from s n b (cond y (f ∷ of_number n fs) (of_number n fs))
+    go true q ih = ih (bytes_at s f) ∙ ap (λ (y : Bool). last_from s n (cond y (bytes_at s f) b) (of_number n fs)) (sym q)
+    go false q ih = ih b
+
+module _ (s : List ℕ) (from end n : ℕ) where
+  pub last-start : (fs : List Field) → fs ≡ fields_from s from end n → Lasts s from end n 0 0 fs
+  last-start fs e = record {
+    ordered = omega arith;
+    inside = omega arith;
+    value = last-of-number s n [] (walk store_keys s from end).items ∙ ap (last_from s n []) (sym e);
+    stand = rw e (all-stand s end n from).each;
+  }
+
+  module _ {first stop : ℕ} {fs : List Field} (h : Lasts s from end n first stop fs) where
+    pub last-more : (f : Field) (rest : List Field) → fs ≡ f ∷ rest → end ≤ length s → Lasts s from end n f.start f.next rest
+    unfolding last_from
+    last-more f rest e l =
+        let a : All (Stands n end) (f ∷ rest) = rw e at h.stand in
+        let p : Stands n end f = a.0 in
+        record {
+          ordered = p.span;
+          inside = omega (arith, p.within);
+          value = h.value ∙ ap (last_from s n (part first (stop - first) s)) e ∙ rw (eq-eqb f.number n p.number);
+          stand = a.1;
+        }
+
+    pub last_end : fs ≡ [] → LastIs s from end n first stop
+    unfolding last_from
+    last_end e = record { ordered = h.ordered; inside = h.inside; value = sym (h.value ∙ ap (last_from s n (part first (stop - first) s)) e) }
