@@ -3,13 +3,11 @@ use Rattle.std.specs.Prelude.{◌≡◌, refl, Result, Ok, Err, Bool, true, fals
 use Rattle.std.proofs.Common.{sym, ◌∙◌, ap, arith, eq-eqb, ne_eqb, eqb-true}
 use Rattle.protocol.specs.declared.Code.{Code}
 use Rattle.laws.specs.Merge.{All}
-use Rattle.laws.specs.Ranges.{part}
 use Rattle.wire.specs.declared.Field.{Field}
 use Rattle.wire.proofs.Steps.{Placed, field-place, Here, step_end, step-fault, step-on}
 use Rattle.wire.specs.Fields.{store_keys, field_at}
 use Rattle.wire.specs.Walk.{Walked, stopped, onward, walk_in, walk, bytes_at, last_from, last}
 use Rattle.wire_reader.proofs.WalkWays.{Faulty}
-use Rattle.wire_reader.specs.Last.{LastIs}
 use Rattle.wire.specs.Numbered.{of_number, fields_from}
 
 -- ---- step by step
@@ -73,11 +71,9 @@ module _ (s : List ℕ) (end n : ℕ) where
   all-stand at = stand-in (end - at) at
 
 -- ---- the last of them
--- what is found so far, and what is left: the part from `first` to `stop` is the last value before these fields
-pub record Lasts (s : List ℕ) (from end wanted first stop : ℕ) (fs : List Field) : Type 0 where
-  pub ordered : first ≤ stop
-  pub inside : stop ≤ length s
-  pub value : last s wanted (walk store_keys s from end).items ≡ last_from s wanted (part first (stop - first) s) fs
+-- what is found so far, and what is left: the last value before these fields is b
+pub record Lasts (s : List ℕ) (from end wanted : ℕ) (b : List ℕ) (fs : List Field) : Type 0 where
+  pub value : last s wanted (walk store_keys s from end).items ≡ last_from s wanted b fs
   pub stand : All (Stands wanted end) fs
 
 -- fields of other numbers do not count
@@ -92,27 +88,19 @@ last-of-number s n b (f ∷ fs) = go (eqb f.number n) refl (λ (w : List ℕ). l
     go false q ih = ih b
 
 module _ (s : List ℕ) (from end n : ℕ) where
-  pub last-start : (fs : List Field) → fs ≡ fields_from s from end n → Lasts s from end n 0 0 fs
+  pub last-start : (fs : List Field) → fs ≡ fields_from s from end n → Lasts s from end n [] fs
   last-start fs e = record {
-    ordered = omega arith;
-    inside = omega arith;
     value = last-of-number s n [] (walk store_keys s from end).items ∙ ap (last_from s n []) (sym e);
     stand = rw e (all-stand s end n from).each;
   }
 
-  module _ {first stop : ℕ} {fs : List Field} (h : Lasts s from end n first stop fs) where
-    pub last-more : (f : Field) (rest : List Field) → fs ≡ f ∷ rest → end ≤ length s → Lasts s from end n f.start f.next rest
+  module _ {b : List ℕ} {fs : List Field} (h : Lasts s from end n b fs) where
+    pub last-more : (f : Field) (rest : List Field) → fs ≡ f ∷ rest → Lasts s from end n (bytes_at s f) rest
     unfolding last_from
-    last-more f rest e l =
+    last-more f rest e =
         let a : All (Stands n end) (f ∷ rest) = rw e at h.stand in
-        let p : Stands n end f = a.0 in
-        record {
-          ordered = p.span;
-          inside = omega (arith, p.within);
-          value = h.value ∙ ap (last_from s n (part first (stop - first) s)) e ∙ rw (eq-eqb f.number n p.number);
-          stand = a.1;
-        }
+        record { value = h.value ∙ ap (last_from s n b) e ∙ rw (eq-eqb f.number n a.0.number); stand = a.1 }
 
-    pub last_end : fs ≡ [] → LastIs s from end n first stop
+    pub last_end : fs ≡ [] → b ≡ last s n (walk store_keys s from end).items
     unfolding last_from
-    last_end e = record { ordered = h.ordered; inside = h.inside; value = sym (h.value ∙ ap (last_from s n (part first (stop - first) s)) e) }
+    last_end e = sym (h.value ∙ ap (last_from s n b) e)

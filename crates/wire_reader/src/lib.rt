@@ -5,9 +5,8 @@ ghost use Rattle.std.specs.Prelude.{◌≡◌, ◌≤◌, length};
 ghost use Rattle.wire.specs.Base128.{number_at};
 ghost use Rattle.wire.specs.Fields.{store_keys, fixed, value_at, field_at};
 ghost use Rattle.wire.specs.Verdict.{verdict};
-ghost use Rattle.wire.specs.Walk.{walk};
+ghost use Rattle.wire.specs.Walk.{walk, last};
 ghost use Rattle.std.specs.Iterator.{YieldsFirst, item_count};
-ghost use Rattle.wire_reader.specs.Last.{LastIs};
 ghost use Rattle.wire.specs.Numbered.{fields_from};
 
 use protocol::Code;
@@ -166,22 +165,14 @@ impl<'a> Iterator for Fields<'a> {
     }
 }
 
-// A part of the buffer.
-#[derive(Clone, Copy)]
-pub struct Span {
-    pub start: usize,
-    pub end: usize,
-}
-
 // The value of the last field of a number, or no bytes.
-pub fn last_field(s: &[u8], from: usize, end: usize, wanted: u64) -> Span
+pub fn last_field(s: &[u8], from: usize, end: usize, wanted: u64) -> &[u8]
     requires { end ≤ length s.now }
-    ensures { LastIs s.now from end wanted result.start result.end }
+    ensures { result.now ≡ last s.now wanted (walk store_keys s.now from end).items }
 {
-    let mut last = Span { start: 0, end: 0 };
+    let mut value: &[u8] = &[];
     for field in Fields::new(s, from, end, wanted) {
-        last.start = field.start;
-        last.end = field.next;
+        value = &s[field.start..field.next];
     }
-    last
+    value
 }

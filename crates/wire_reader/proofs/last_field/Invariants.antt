@@ -4,4 +4,4 @@ use Rattle.wire_reader.proofs.Numbers.{Lasts}
 use Rattle.wire_reader.proofs.last_field.Given as goal
 
 abbrev pub invariant-loop-field : goal.invariant-loop-field
-invariant-loop-field l = Lasts l.s l.from l.end l.wanted l.last.start l.last.end (left l.field-iterator)
+invariant-loop-field l = Lasts l.s l.from l.end l.wanted l.value (left l.field-iterator)
