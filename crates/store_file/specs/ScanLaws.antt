@@ -1,6 +1,6 @@
 -- The blobs of a file, step by step. Assumes nothing.
-use Rattle.std.specs.Prelude.{◌≡◌, refl, Result, Ok, Err, Bool, true, false, cond, ◌&&◌, List, [], ◌∷◌, ℕ, zero, suc, ◌-◌, ◌≤◌, ◌<◌, eqb, ltb, length, map}
-use Rattle.std.proofs.Common.{sym, ◌∙◌, eq-eqb, ne_eqb}
+use Rattle.std.specs.Prelude.{◌≡◌, refl, Result, Ok, Err, Bool, true, false, cond, ◌&&◌, List, [], ◌∷◌, ℕ, zero, suc, ◌-◌, ◌≤◌, ◌<◌, eqb, ltb, length}
+use Rattle.std.proofs.Common.{sym, ◌∙◌, arith, eq-eqb, ne_eqb}
 use Rattle.std.proofs.Math.Path.{ap}
 use Rattle.std.proofs.lemmas.Bool.{eqb-false}
 use Rattle.protocol.specs.declared.Code.{Code}
@@ -8,6 +8,8 @@ use Rattle.wire.specs.declared.Field.{Field}
 use Rattle.wire.specs.Fields.{faulty, store_keys, field_at}
 use Rattle.wire.specs.Numbered.{of_number, fields_from}
 use Rattle.wire.specs.Walk.{Walked, stopped, before, onward, walk_in, walk}
+use Rattle.laws.specs.Merge.{All}
+use Rattle.wire.proofs.Standing.{Stands, all-stand}
 use Rattle.wire.proofs.Steps.{step_end, step-fault, step-on}
 use Rattle.wire.proofs.Steps as steps
 use Rattle.store_file.specs.Messages.{Scan, blob_field, scan_at, scans_at, inside, store_in}
@@ -53,6 +55,18 @@ scans-of-number f (i ∷ is) = go (eqb i.number blob_field) (scans-of-number f i
 
 pub scans-fields : (f : List ℕ) (at : ℕ) → scans_from f at ≡ scans_in f (fields_from f at (length f) blob_field)
 scans-fields f at = scans-of-number f (walk store_keys f at (length f)).items
+
+-- before a loop over the blobs of a file: all of them are left, each stands in the file, and there are no more than bytes
+pub record Unread (f : List ℕ) (blobs : List Field) : Type 0 where
+  pub few : length blobs ≤ length f
+  pub stand : All (Stands blob_field (length f)) blobs
+  pub scans : scans_from f 0 ≡ scans_in f blobs
+
+pub unread : (f : List ℕ) (blobs : List Field) → blobs ≡ fields_from f 0 (length f) blob_field → Unread f blobs
+unread f blobs e =
+    let s = all-stand f (length f) blob_field 0 in
+    let l : length blobs ≡ length (fields_from f 0 (length f) blob_field) = ap length e in
+    record { few = omega (arith, s.few); stand = rw e s.each; scans = scans-fields f 0 ∙ ap (scans_in f) (sym e) }
 
 -- a whole field stands at a place of the file
 abbrev pub Here : List ℕ → (at n k start next : ℕ) → Type 0

@@ -5,3 +5,4 @@ pub mod Forms
 pub mod Examples
 pub mod Passed
 pub mod Verdicts
+pub mod Standing
