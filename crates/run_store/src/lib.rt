@@ -124,10 +124,11 @@ fn load_bytes(
     image: &[u8],
     hash: &[u8],
 ) -> Opened {
-    let loading = load(store, control, table, names, committed, staged, image, hash);
-    let code = loading.code;
-    let next = loading.control;
-    if code.0 != 0 {
+    let mut next = control;
+    let loaded = load(
+        store, &mut next, table, names, committed, staged, image, hash,
+    );
+    if let Err(code) = loaded {
         complain_refused(errors, path, code);
         return Opened {
             control: next,
@@ -236,16 +237,11 @@ fn write_parts(
         let saved = save_part(
             part, control, table, names, committed, staged, image, hash, buffer,
         );
-        let code = saved.code;
-        let last = Code::OUT_OF_RANGE;
-        if code.0 == last.0 {
-            return Ok(());
+        match saved {
+            Ok(len) => file.write_all(&buffer[..len])?,
+            Err(Code::OUT_OF_RANGE) => return Ok(()),
+            Err(_) => return Err(refused()),
         }
-        if code.0 != 0 {
-            return Err(refused());
-        }
-        let len = saved.len;
-        file.write_all(&buffer[..len])?;
     }
     Err(refused())
 }

@@ -4,7 +4,7 @@ use Rattle.protocol.specs.Numbers.{slot_size}
 use Rattle.protocol.specs.Names.{store_name}
 use Rattle.store_file.specs.Messages.{Scan}
 use Rattle.store_file.specs.Loaded.{every}
-use Rattle.store_file.specs.Scans.{scans_from, scan_between}
+use Rattle.store_file.specs.Scans.{scans_from}
 
 -- a blob has a store name (rule 24.5)
 abbrev pub named_right : Scan → Bool
@@ -13,11 +13,6 @@ named_right x = store_name x.name
 -- a blob fits a slot (rule 24.5)
 abbrev pub sized_right : Scan → Bool
 sized_right x = leb (length x.bytes) slot_size
-
--- of the blob between two places: whether its name is right, and its size
-pub record BlobTested (f : List ℕ) (start stop : ℕ) (name size : Bool) : Type 0 where
-  pub name-is : name ≡ named_right (scan_between f start stop)
-  pub size_is : size ≡ sized_right (scan_between f start stop)
 
 -- of all blobs: whether every name is right, every size, and how many there are
 pub record AllTested (f : List ℕ) (names sizes : Bool) (count : ℕ) : Type 0 where

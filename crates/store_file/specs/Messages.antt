@@ -1,7 +1,8 @@
 -- The two messages of a store file, BinaryBlobStore and in it BinaryBlob, as a reader finds them.
 use Rattle.std.specs.Prelude.{cond, List, [], ◌∷◌, ℕ, eqb, length}
+use Rattle.wire.specs.declared.Field.{Field}
 use Rattle.wire.specs.Fields.{store_keys}
-use Rattle.wire.specs.Walk.{Item, Walked, walk_with, walk, last}
+use Rattle.wire.specs.Walk.{Walked, walk_with, walk, last}
 
 -- of a store: its base id (rule 23.1)
 abbrev pub base_field : ℕ
@@ -25,19 +26,19 @@ pub record Scan : Type 0 where
   pub bytes : List ℕ
 
 -- the message that stands in a field of the file f (rule 24.3)
-abbrev pub blob_at : List ℕ → Item → Walked
-blob_at f i = walk store_keys f i.start i.stop
+abbrev pub blob_at : List ℕ → Field → Walked
+blob_at f i = walk store_keys f i.start i.next
 
 -- the blob in it: an absent name counts as an empty one, which is no store name; absent data is an empty scan (rule 24.4)
-abbrev pub scan_at : List ℕ → Item → Scan
+abbrev pub scan_at : List ℕ → Field → Scan
 scan_at f i = record { name = last f name_field (blob_at f i).items; bytes = last f data_field (blob_at f i).items }
 
 -- what is wrong inside a field of the file: of a blob its first fault, of any other field nothing (rule 24.3)
-abbrev pub inside : List ℕ → Item → ℕ
+abbrev pub inside : List ℕ → Field → ℕ
 inside f i = cond (eqb i.number blob_field) (blob_at f i).fault 0
 
 -- the blobs, in the order of the file (rule 24.4)
-unfoldable pub scans_at : List ℕ → List Item → List Scan
+unfoldable pub scans_at : List ℕ → List Field → List Scan
 scans_at f [] = []
 scans_at f (i ∷ is) = cond (eqb i.number blob_field) (scan_at f i ∷ scans_at f is) (scans_at f is)
 

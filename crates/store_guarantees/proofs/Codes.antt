@@ -1,23 +1,22 @@
 -- Every code of saving and loading is one that the document has for it. Assumes nothing.
-use Rattle.std.specs.Prelude.{◌≡◌, Bool, true, false, not, cond, List, [], ◌∷◌, eqb, ltb, leb, length}
+use Rattle.std.specs.Prelude.{◌≡◌, Option, Some, None, Result, Ok, Err, Bool, true, false, not, cond, List, [], ◌∷◌, eqb, ltb, leb, length}
 use Rattle.std.proofs.Math.Path.{refl}
 use Rattle.std.proofs.Common.{sym, subst, true≢false, eqb-true}
 use Prim.Native.Nat.{ℕ, zero, suc, ◌-◌, ◌/◌, ◌%◌}
 use Rattle.laws.specs.All.{Or, this, that, or-true}
 use Rattle.laws.specs.Merge.{All}
 use Rattle.laws.specs.Bytes.{same}
+use Rattle.protocol.specs.declared.Code.{Code}
 use Rattle.protocol.specs.Numbers.{success, other_type, zero_field, wrong_type, bad_number, past_end, slot_count, slot_size}
 use Rattle.protocol.specs.Names.{base, store_name}
 use Rattle.protocol.proofs.NameForms.{one_of}
 use Rattle.state.specs.State.{State}
 use Rattle.state.specs.Soundness.{is_sound}
 use Rattle.wire.specs.declared.Number.{Number}
-use Rattle.wire.specs.declared.Number.TheVariants.{Value, Bad}
 use Rattle.wire.specs.declared.Field.{Field}
-use Rattle.wire.specs.declared.Field.TheVariants.{Whole, Fault}
 use Rattle.wire.specs.Base128.{number_at}
 use Rattle.wire.specs.Fields.{number_type, eight_type, four_type, bytes_type, readable, numbered, fixed, measured, value_at, KeyRule, keyed, field_at, misfit, known, store_keys}
-use Rattle.wire.specs.Walk.{Item, Walked, stopped, before, onward, walk_in}
+use Rattle.wire.specs.Walk.{Walked, stopped, before, onward, walk_in}
 use Rattle.store_file.specs.Messages.{Scan, Reading, reading, blob_field, inside}
 use Rattle.store_file.specs.Saved.{Saved, Call, scans_of, contents, part_of, buffer_size, saved_into}
 use Rattle.store_file.specs.Loaded.{every, different, reason, store_open, Loaded, loaded}
@@ -45,26 +44,26 @@ abbrev InWire : ℕ → Type 0
 InWire c = one_of c wire_codes ≡ true
 
 -- the code that a field carries, 0 for a whole one
-abbrev fault_of : Field → ℕ
-fault_of (Fault c) = c
-fault_of (Whole n k start next) = 0
+abbrev fault_of : Result Field Code → ℕ
+fault_of (Err c) = c.0
+fault_of (Ok f) = 0
 
-abbrev FieldIn : Field → Type 0
+abbrev FieldIn : Result Field Code → Type 0
 FieldIn f = InWire (fault_of f)
 
 fixed-code : (n k size start end : ℕ) → FieldIn (fixed n k size start end)
 unfolding fixed
 fixed-code n k size start end = either FieldIn (leb size (end - start)) _ _ refl refl
 
-numbered-code : (n start : ℕ) (x : Number) → FieldIn (numbered n start x)
+numbered-code : (n start : ℕ) (x : Option Number) → FieldIn (numbered n start x)
 unfolding numbered
-numbered-code n start Bad = refl
-numbered-code n start (Value v next) = refl
+numbered-code n start None = refl
+numbered-code n start (Some x) = refl
 
-measured-code : (n end : ℕ) (x : Number) → FieldIn (measured n end x)
+measured-code : (n end : ℕ) (x : Option Number) → FieldIn (measured n end x)
 unfolding measured
-measured-code n end Bad = refl
-measured-code n end (Value size start) = fixed-code n bytes_type size start end
+measured-code n end None = refl
+measured-code n end (Some x) = fixed-code n bytes_type x.value x.next end
 
 value-code : (n k : ℕ) (s : List ℕ) (start end : ℕ) → FieldIn (value_at n k s start end)
 unfolding value_at
@@ -78,24 +77,24 @@ unfolding known
 known-code most n k = either InWire (eqb n 0) _ _ refl (either InWire (misfit most n k) _ _ refl refl)
 
 module _ (rule : KeyRule) (ruled : (n k : ℕ) → InWire (rule n k)) where
-  keyed-code : (s : List ℕ) (end : ℕ) (x : Number) → FieldIn (keyed rule s end x)
+  keyed-code : (s : List ℕ) (end : ℕ) (x : Option Number) → FieldIn (keyed rule s end x)
   unfolding keyed
-  keyed-code s end Bad = refl
-  keyed-code s end (Value v start) =
-      either FieldIn (not (readable (v % 8))) _ _ refl
-      (either FieldIn (eqb (rule (v / 8) (v % 8)) 0) _ _ (value-code (v / 8) (v % 8) s start end) (ruled (v / 8) (v % 8)))
+  keyed-code s end None = refl
+  keyed-code s end (Some x) =
+      let n : ℕ = x.value / 8 in
+      let k : ℕ = x.value % 8 in
+      either FieldIn (not (readable k)) _ _ refl
+      (either FieldIn (eqb (rule n k) 0) _ _ (value-code n k s x.next end) (ruled n k))
 
   field-code : (s : List ℕ) (at end : ℕ) → FieldIn (field_at rule s at end)
   unfolding field_at
   field-code s at end = keyed-code s end (number_at s at end)
 
-  module _ (look : Item → ℕ) (looked : (i : Item) → InWire (look i)) where
-    onward-code : (f : Field) (rest : ℕ → Walked) → FieldIn f → ((next : ℕ) → InWire (rest next).fault) → InWire (onward look f rest).fault
+  module _ (look : Field → ℕ) (looked : (i : Field) → InWire (look i)) where
+    onward-code : (f : Result Field Code) (rest : ℕ → Walked) → FieldIn f → ((next : ℕ) → InWire (rest next).fault) → InWire (onward look f rest).fault
     unfolding onward
-    onward-code (Fault c) rest h g = h
-    onward-code (Whole n k start next) rest h g =
-        let i : Item = record { number = n; kind = k; start = start; stop = next } in
-        either (λ (w : Walked). InWire w.fault) (eqb (look i) 0) (before i (rest next)) (stopped (look i)) (g next) (looked i)
+    onward-code (Err c) rest h g = h
+    onward-code (Ok f) rest h g = either (λ (w : Walked). InWire w.fault) (eqb (look f) 0) (before f (rest f.next)) (stopped (look f)) (g f.next) (looked f)
 
     walk_code : (m : ℕ) (s : List ℕ) (at end : ℕ) → InWire (walk_in rule look m s at end).fault
     unfolding walk_in
@@ -105,9 +104,9 @@ module _ (rule : KeyRule) (ruled : (n k : ℕ) → InWire (rule n k)) where
         (onward-code (field_at rule s at end) (λ (next : ℕ). walk_in rule look m s next end) (field-code s at end) (λ (next : ℕ). walk_code m s next end)) refl
 
 -- ---- a file
-inside-code : (f : List ℕ) (i : Item) → InWire (inside f i)
+inside-code : (f : List ℕ) (i : Field) → InWire (inside f i)
 inside-code f i =
-    either InWire (eqb i.number blob_field) _ _ (walk_code store_keys (known-code 2) (λ (j : Item). 0) (λ (j : Item). refl) (i.stop - i.start) f i.start i.stop) refl
+    either InWire (eqb i.number blob_field) _ _ (walk_code store_keys (known-code 2) (λ (j : Field). 0) (λ (j : Field). refl) (i.next - i.start) f i.start i.next) refl
 
 -- THE FAULT THAT READING FINDS, in any bytes, is none or one of the five of the wire format
 pub reading-code : (f : List ℕ) → one_of (reading f).fault wire_codes ≡ true

@@ -1,16 +1,17 @@
 -- What the code leaves, as the definitions say it; what it is lent.
-use Rattle.std.specs.Prelude.{◌≡◌, List, ℕ, ◌≤◌, ◌<◌, length, get_or, take}
+use Rattle.std.specs.Prelude.{Result, Ok, Err, ◌≡◌, List, ℕ, ◌≤◌, ◌<◌, length, get_or, take}
 use Rattle.laws.specs.Bytes.{text}
 use Rattle.laws.specs.Ranges.{block}
-use Rattle.protocol.specs.Numbers.{sixteen_bits, slot_count, name_size, slot_size}
+use Rattle.protocol.specs.declared.Code.{Code}
+use Rattle.protocol.specs.Numbers.{success, sixteen_bits, slot_count, name_size, slot_size}
 use Rattle.state.specs.Lent.{NamesLent, RegionsLent}
 use Rattle.store_file.specs.Messages.{Scan}
 use Rattle.store_file.specs.Saved.{buffer_size, Call}
-use Rattle.store_writer.specs.declared.Part.{Part}
 
--- what a call leaves: the code's result, with the buffer
-abbrev pub call_of : Part → List ℕ → Call
-call_of r b = record { code = r.code.0; len = r.len; buffer = b }
+-- what a call leaves: the part's length, or the code of the refusal and no byte, with the buffer
+abbrev pub call_of : Result ℕ Code → List ℕ → Call
+call_of (Ok len) b = record { code = success; len = len; buffer = b }
+call_of (Err c) b = record { code = c.0; len = 0; buffer = b }
 
 -- the scan of slot k, in the lent names and committed bytes
 abbrev pub scan_in : List ℕ → List ℕ → ℕ → ℕ → Scan

@@ -1,9 +1,9 @@
 // The committed store, written part by part into a lent buffer.
 #![tactic(auto)]
 
-ghost use Rattle.std.specs.Prelude.{◌≡◌, List, ℕ, ◌+◌, ◌<◌, ◌≤◌, length};
+ghost use Rattle.std.specs.Prelude.{◌≡◌, ◌≢◌, List, ℕ, ◌+◌, ◌<◌, ◌≤◌, length, IfOk, IfErr};
 ghost use Rattle.std.proofs.lemmas.List.Edits.{sets};
-ghost use Rattle.protocol.specs.Numbers.{slot_count, name_size, slot_size};
+ghost use Rattle.protocol.specs.Numbers.{success, slot_count, name_size, slot_size};
 ghost use Rattle.wire.specs.Base128.{shortest};
 ghost use Rattle.wire.specs.Written.{head_of, written};
 ghost use Rattle.state.specs.State.{state_of};
@@ -66,7 +66,7 @@ fn put_field(dst: &mut [u8], at: usize, number: u64, src: &[u8]) -> usize
 // A blob's part at the front of a buffer; its length.
 fn put_blob(dst: &mut [u8], name: &[u8], scan: &[u8]) -> usize
     requires { (length name.now ≤ name_size) × ((length scan.now ≤ slot_size) × (buffer_size ≤ length dst.old)) }
-    ensures { (result ≡ length (written (blob_content (record { name = name.entry.now; bytes = scan.now })))) × (dst.new ≡ sets dst.old 0 (written (blob_content (record { name = name.entry.now; bytes = scan.now })))) }
+    ensures { (result ≡ length (written (blob_content (record { name = name.now; bytes = scan.now })))) × (dst.new ≡ sets dst.old 0 (written (blob_content (record { name = name.now; bytes = scan.now })))) }
 {
     let first = head_size(name.len()) + name.len();
     let second = head_size(scan.len()) + scan.len();
@@ -88,49 +88,33 @@ fn put_slot(dst: &mut [u8], k: usize, len: usize, names: &[u8], committed: &[u8]
     put_blob(dst, &names[at..nul], &committed[from..to])
 }
 
-// A part's completion code, and its length in the buffer.
-#[derive(Clone, Copy)]
-pub struct Part {
-    pub code: Code,
-    pub len: usize,
-}
-
-// A part of a sound state's store, in a buffer of the right length.
+// A part of a sound state's store, in a buffer of the right length; its length there.
 fn write_part(
     part: u32,
     control: Control,
     names: &[u8],
     committed: &[u8],
     buffer: &mut [u8],
-) -> Part
+) -> Result<usize, Code>
     requires { Lent control.marks names.now committed.now control.committed_len buffer.old }
-    ensures { ((table staged image hash : List ℕ) → call_of result buffer.new ≡ laid_out (part_of part (state_of control table names.now committed.now staged image hash)) buffer.old) × (result.len ≤ buffer_size) }
+    ensures laid { (table staged image hash : List ℕ) → call_of result buffer.new ≡ laid_out (part_of part (state_of control table names.now committed.now staged image hash)) buffer.old }
+    ensures short { IfOk result (λ len. len ≤ buffer_size) }
+    ensures refused { IfErr result (λ c. c.0 ≢ success) }
 {
     if part == 0 {
         let base = protocol::BASE;
-        let len = put_field(buffer, 0, STORE_BASE, &base);
-        return Part {
-            code: Code::SUCCESS,
-            len,
-        };
+        return Ok(put_field(buffer, 0, STORE_BASE, &base));
     }
     let i = part - 1;
     if u32::count_ones(control.marks) <= i {
-        return Part {
-            code: Code::OUT_OF_RANGE,
-            len: 0,
-        };
+        return Err(Code::OUT_OF_RANGE);
     }
     let k = nth_set(control.marks, i);
     let size = control.committed_len[k] as usize;
-    let len = put_slot(buffer, k, size, names, committed);
-    Part {
-        code: Code::SUCCESS,
-        len,
-    }
+    Ok(put_slot(buffer, k, size, names, committed))
 }
 
-// THE WRITER: a part of the committed store, at the front of a lent buffer.
+// THE WRITER: a part of the committed store, at the front of a lent buffer; its length there.
 pub fn save_part(
     part: u32,
     control: Control,
@@ -141,21 +125,16 @@ pub fn save_part(
     image: &[u8],
     hash: &[u8],
     buffer: &mut [u8],
-) -> Part
+) -> Result<usize, Code>
     ensures buffer_after { call_of result buffer.new ≡ saved_into part (state_of control table.now names.now committed.now staged.now image.now hash.now) buffer.old }
-    ensures len_le_buffer_size { (result.len ≤ buffer_size) × (result.len ≤ length buffer.new) }
+    ensures len_le_buffer_size { IfOk result (λ len. (len ≤ buffer_size) × (len ≤ length buffer.new)) }
+    ensures refused { IfErr result (λ c. c.0 ≢ success) }
 {
     if buffer.len() != BUFFER_SIZE {
-        return Part {
-            code: Code::NOT_SOUND,
-            len: 0,
-        };
+        return Err(Code::NOT_SOUND);
     }
     if !sound(control, table, names, committed, staged, image, hash) {
-        return Part {
-            code: Code::NOT_SOUND,
-            len: 0,
-        };
+        return Err(Code::NOT_SOUND);
     }
     write_part(part, control, names, committed, buffer)
 }

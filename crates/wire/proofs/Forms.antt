@@ -1,17 +1,16 @@
 -- A number is read in every form that it has, and written in the shortest. Assumes nothing.
-use Rattle.std.specs.Prelude.{◌≡◌, refl, Bool, true, false, cond, List, [], ◌∷◌, ◌++◌, ℕ, zero, suc, ◌+◌, ◌*◌, ◌-◌, ◌/◌, ◌%◌, ◌^◌, ◌≤◌, ◌<◌, ltb, length, get_or, drop}
+use Rattle.std.specs.Prelude.{Option, Some, None, ◌≡◌, refl, Bool, true, false, cond, List, [], ◌∷◌, ◌++◌, ℕ, zero, suc, ◌+◌, ◌*◌, ◌-◌, ◌/◌, ◌%◌, ◌^◌, ◌≤◌, ◌<◌, ltb, length, get_or, drop}
 use Rattle.std.proofs.Common.{sym, ◌∙◌, ap, pow-suc, add-one, arith, lt-ltb, le-ltb, ltb-true, ltb-false, drop-cons}
 use Rattle.std.proofs.Math.Decide.{dec_lt}
 use Rattle.laws.specs.Merge.{All}
 use Rattle.wire.specs.declared.Number.{Number}
-use Rattle.wire.specs.declared.Number.TheVariants.{Value, Bad}
-use Rattle.wire.specs.Base128.{number_most, more, number_in, number_at, shortest_in, shortest}
-use Rattle.wire.proofs.NumberLaws.{byte-here, behind, number-last, number_more, positive, short-last, short-more}
+use Rattle.wire.specs.Base128.{number_most, valued, more, number_in, number_at, shortest_in, shortest}
+use Rattle.wire.proofs.NumberLaws.{same-valued, byte-here, behind, number-last, number_more, positive, short-last, short-more}
 use Rattle.wire.specs.Forms.{value_of, form_of, IsForm}
 
 -- ---- read
 read-in : (n : ℕ) (gs : List ℕ) (s t : List ℕ) (at end : ℕ) → 0 < length gs → length gs ≤ n → All (λ (g : ℕ). g < 128) gs → value_of gs < 2 ^ 64
-    → drop at s ≡ form_of gs ++ t → at + length gs ≤ end → number_in n s at end ≡ Value (value_of gs) (at + length gs)
+    → drop at s ≡ form_of gs ++ t → at + length gs ≤ end → number_in n s at end ≡ valued (value_of gs) (at + length gs)
 unfolding value_of form_of
 read-in n [] s t at end z l a f e h = absurd (omega arith)
 read-in zero (g ∷ gs) s t at end z l a f e h = absurd (omega arith)
@@ -24,12 +23,12 @@ read-in (suc n) (g ∷ h ∷ gs) s t at end z l a f e k =
     let b : get_or s at 0 ≡ 128 + g = byte-here s (form_of (h ∷ gs) ++ t) at (128 + g) e in
     let low : get_or s at 0 - 128 ≡ g = omega arith in
     let place : at + 1 + length (h ∷ gs) ≡ at + length (g ∷ h ∷ gs) = omega arith in
-    let r : number_in n s (at + 1) end ≡ Value (value_of (h ∷ gs)) (at + 1 + length (h ∷ gs))
+    let r : number_in n s (at + 1) end ≡ valued (value_of (h ∷ gs)) (at + 1 + length (h ∷ gs))
     = read-in n (h ∷ gs) s t (at + 1) end (omega arith) (omega arith) a.1 (omega arith) (behind ((128 + g) ∷ []) s (form_of (h ∷ gs) ++ t) at e) (omega arith) in
     number_more n s at end (omega arith) (omega arith) ∙ rw (low, r, lt-ltb (g + 128 * value_of (h ∷ gs)) (2 ^ 64) f, place)
 
 -- A NUMBER IS READ IN EVERY FORM, whatever stands behind it; the highest groups may be zero (rule 21.19)
-pub read-any : (gs s t : List ℕ) (at end : ℕ) → IsForm gs → drop at s ≡ form_of gs ++ t → at + length gs ≤ end → number_at s at end ≡ Value (value_of gs) (at + length gs)
+pub read-any : (gs s t : List ℕ) (at end : ℕ) → IsForm gs → drop at s ≡ form_of gs ++ t → at + length gs ≤ end → number_at s at end ≡ valued (value_of gs) (at + length gs)
 read-any gs s t at end h e l = read-in number_most gs s t at end h.some h.few h.seven h.fits e l
 
 -- ---- written
@@ -172,7 +171,7 @@ byte_more n s at u m l a b f r =
       in-there = drop-cons s at 0 l ∙ rw (← add-one at) (λ i. e i ∷ r.in-there i) ∙ ap (λ (x : List ℕ). x ++ drop m s) (sym (form-more low gs r.in_some));
     }
 
-read-one-in : (n : ℕ) (s : List ℕ) (at end v next : ℕ) → end ≤ length s → ((i : ℕ) → i < length s → get_or s i 0 < 256) → number_in n s at end ≡ Value v next → ReadIn n s at v next
+read-one-in : (n : ℕ) (s : List ℕ) (at end v next : ℕ) → end ≤ length s → ((i : ℕ) → i < length s → get_or s i 0 < 256) → number_in n s at end ≡ valued v next → ReadIn n s at v next
 unfolding number_in
 read-one-in zero s at end v next z y e = absurd (let q : ◌≡◌ {A = ℕ} 0 1 = cc in omega arith)
 read-one-in (suc n) s at end v next z y e = go (ltb at end) (ltb (get_or s at 0) 128) refl refl (λ (u m : ℕ). read-one-in n s (at + 1) end u m z y) e
@@ -181,25 +180,25 @@ read-one-in (suc n) s at end v next z y e = go (ltb at end) (ltb (get_or s at 0)
     low = get_or s at 0 - 128
 
     Later : Type 0
-    Later = (u m : ℕ) → number_in n s (at + 1) end ≡ Value u m → ReadIn n s (at + 1) u m
+    Later = (u m : ℕ) → number_in n s (at + 1) end ≡ valued u m → ReadIn n s (at + 1) u m
 
     last : (b : Bool) (u m : ℕ) → ltb (low + 128 * u) (2 ^ 64) ≡ b → at < end → 128 ≤ get_or s at 0 → ReadIn n s (at + 1) u m → cond b
-        (Value (low + 128 * u) m) Bad ≡ Value v next → ReadIn (suc n) s at v next
+        (valued (low + 128 * u) m) None ≡ valued v next → ReadIn (suc n) s at v next
     last true u m p l h r e =
-        let worth : low + 128 * u ≡ v = cc in
-        let stop : m ≡ next = cc in
+        let worth : low + 128 * u ≡ v = (same-valued e).0 in
+        let stop : m ≡ next = (same-valued e).1 in
         rw (worth, stop) at (byte_more n s at u m (omega arith) h (y at (omega arith)) (ltb-true (low + 128 * u) (2 ^ 64) p) r)
     last false u m p l h r e = absurd (let q : ◌≡◌ {A = ℕ} 0 1 = cc in omega arith)
 
-    inner : (x : Number) → number_in n s (at + 1) end ≡ x → at < end → 128 ≤ get_or s at 0 → Later → more low x ≡ Value v next → ReadIn (suc n) s at v next
-    inner Bad p l h ih e = absurd (let q : ◌≡◌ {A = ℕ} 0 1 = cc in omega arith)
-    inner (Value u m) p l h ih e = last (ltb (low + 128 * u) (2 ^ 64)) u m refl l h (ih u m p) e
+    inner : (x : Option Number) → number_in n s (at + 1) end ≡ x → at < end → 128 ≤ get_or s at 0 → Later → more low x ≡ valued v next → ReadIn (suc n) s at v next
+    inner None p l h ih e = absurd (let q : ◌≡◌ {A = ℕ} 0 1 = cc in omega arith)
+    inner (Some x) p l h ih e = last (ltb (low + 128 * x.value) (2 ^ 64)) x.value x.next refl l h (ih x.value x.next p) e
 
-    go : (a b : Bool) → ltb at end ≡ a → ltb (get_or s at 0) 128 ≡ b → Later → cond a (cond b (Value (get_or s at 0) (at + 1))
-        (more low (number_in n s (at + 1) end))) Bad ≡ Value v next → ReadIn (suc n) s at v next
+    go : (a b : Bool) → ltb at end ≡ a → ltb (get_or s at 0) 128 ≡ b → Later → cond a (cond b (valued (get_or s at 0) (at + 1))
+        (more low (number_in n s (at + 1) end))) None ≡ valued v next → ReadIn (suc n) s at v next
     go true true p q ih e =
-        let worth : get_or s at 0 ≡ v = cc in
-        let stop : at + 1 ≡ next = cc in
+        let worth : get_or s at 0 ≡ v = (same-valued e).0 in
+        let stop : at + 1 ≡ next = (same-valued e).1 in
         let l = ltb-true at end p in
         rw (worth, stop) at (one_byte n s at (omega arith) (ltb-true (get_or s at 0) 128 q))
     go true false p q ih e = inner (number_in n s (at + 1) end) refl (ltb-true at end p) (ltb-false (get_or s at 0) 128 q) ih e
@@ -214,7 +213,7 @@ pub record ReadAs (s : List ℕ) (at v next : ℕ) : Type 0 where
   pub read-there : drop at s ≡ form_of groups ++ drop next s
 
 -- WHATEVER IS READ AS A NUMBER, from bytes that are all there, IS ONE OF ITS FORMS (rule 21.19)
-pub read-one-value : (s : List ℕ) (at end v next : ℕ) → end ≤ length s → ((i : ℕ) → i < length s → get_or s i 0 < 256) → number_at s at end ≡ Value v next → ReadAs s at v next
+pub read-one-value : (s : List ℕ) (at end v next : ℕ) → end ≤ length s → ((i : ℕ) → i < length s → get_or s i 0 < 256) → number_at s at end ≡ valued v next → ReadAs s at v next
 read-one-value s at end v next z y e =
     let r = read-one-in number_most s at end v next z y e in
     let w = r.in-worth in

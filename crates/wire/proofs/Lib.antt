@@ -3,3 +3,6 @@ pub mod WalkLaws
 pub mod Steps
 pub mod Forms
 pub mod Examples
+pub mod Passed
+pub mod Verdicts
+pub mod Standing

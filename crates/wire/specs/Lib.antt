@@ -3,3 +3,5 @@ pub mod Fields
 pub mod Walk
 pub mod Written
 pub mod Forms
+pub mod Verdict
+pub mod Numbered

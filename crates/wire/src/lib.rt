@@ -2,24 +2,18 @@
 // stands in a crate above.
 #![tactic(auto)]
 
-// A base-128 number: its value and the place behind it; or none that is whole.
+// A base-128 number: its value and the place behind it.
 #[derive(Clone, Copy)]
-pub enum Number {
-    Value { value: u64, next: usize },
-    Bad,
+pub struct Number {
+    pub value: u64,
+    pub next: usize,
 }
 
-// A field: its number, its wire type, where its value starts, and the place behind it, where the next field starts; or the fault, as a completion
-// code.
+// A field: its number, its wire type, where its value starts, and the place behind it, where the next field starts.
 #[derive(Clone, Copy)]
-pub enum Field {
-    Whole {
-        number: u64,
-        kind: u8,
-        start: usize,
-        next: usize,
-    },
-    Fault {
-        code: u8,
-    },
+pub struct Field {
+    pub number: u64,
+    pub kind: u8,
+    pub start: usize,
+    pub next: usize,
 }

@@ -2,6 +2,7 @@
 use mathlib.Core.Path.{◌≡◌, refl, sym, ◌∙◌, ap}
 use mathlib.Core.Bool.{Bool, true, false, cond}
 use mathlib.Core.List.{List}
+use Rattle.std.specs.Prelude.{Option, Some, None}
 use Prim.Native.Nat.{ℕ, zero, suc, ◌+◌, ◌*◌, ◌-◌, ◌^◌, ◌≤◌, ◌<◌}
 use native.Mathlib.Nat.{pow-suc, pow-le-pow_right, mul-le-mul_left, mul-le-mul_right, zero-add, one-mul}
 use native.Mathlib.Decide.{dec_lt}
@@ -10,21 +11,26 @@ use lib.Dec.{ltb}
 use borrow.Author.Tests.{lt-ltb, le-ltb, ltb-true, ltb-false}
 use lib.ListN.{get_or}
 use Rattle.wire.specs.declared.Number.{Number}
-use Rattle.wire.specs.declared.Number.TheVariants.{Value, Bad}
-use Rattle.wire.specs.Base128.{more, number_in, number_at}
+use Rattle.wire.specs.Base128.{valued, more, number_in, number_at}
 use Rattle.wire.proofs.NumberLaws.{number-last, number_more, number_cut}
 
 -- a number that is still to come, behind what is read so far: its weight, and the part read
-abbrev pub carried : ℕ → ℕ → Number → Number
-carried w a Bad = Bad
-carried w a (Value v next) = cond (ltb (a + w * v) (2 ^ 64)) (Value (a + w * v) next) Bad
+abbrev pub carried : ℕ → ℕ → Option Number → Option Number
+carried w a None = None
+carried w a (Some x) = cond (ltb (a + w * x.value) (2 ^ 64)) (valued (a + w * x.value) x.next) None
 
 -- a number has at most 64 bits
-start-more : (low : ℕ) (x : Number) → carried 1 0 (more low x) ≡ more low x
-start-more low Bad = refl
-start-more low (Value v next) = go (ltb (low + 128 * v) (2 ^ 64)) refl
+start-more : (low : ℕ) (x : Option Number) → carried 1 0 (more low x) ≡ more low x
+start-more low None = refl
+start-more low (Some x) = go (ltb (low + 128 * v) (2 ^ 64)) refl
   where
-    go : (b : Bool) → ltb (low + 128 * v) (2 ^ 64) ≡ b → carried 1 0 (cond b (Value (low + 128 * v) next) Bad) ≡ cond b (Value (low + 128 * v) next) Bad
+    v : ℕ
+    v = x.value
+
+    next : ℕ
+    next = x.next
+
+    go : (b : Bool) → ltb (low + 128 * v) (2 ^ 64) ≡ b → carried 1 0 (cond b (valued (low + 128 * v) next) None) ≡ cond b (valued (low + 128 * v) next) None
     go true q = rw (one-mul, zero-add, q)
     go false q = refl
 
@@ -34,21 +40,27 @@ start zero s at end = refl
 start (suc n) s at end = go (ltb at end) (ltb (get_or s at 0) 128) refl
   where
     go : (a b : Bool) → ltb (get_or s at 0) 128 ≡ b
-        → cond a (cond b (Value (get_or s at 0) (at + 1)) (more (get_or s at 0 - 128) (number_in n s (at + 1) end))) Bad
-        ≡ carried 1 0 (cond a (cond b (Value (get_or s at 0) (at + 1)) (more (get_or s at 0 - 128) (number_in n s (at + 1) end))) Bad)
+        → cond a (cond b (valued (get_or s at 0) (at + 1)) (more (get_or s at 0 - 128) (number_in n s (at + 1) end))) None
+        ≡ carried 1 0 (cond a (cond b (valued (get_or s at 0) (at + 1)) (more (get_or s at 0 - 128) (number_in n s (at + 1) end))) None)
     go true true q = let h = ltb-true (get_or s at 0) 128 q in rw (one-mul, zero-add, lt-ltb (get_or s at 0) (2 ^ 64) (omega arith))
     go true false q = sym (start-more (get_or s at 0 - 128) (number_in n s (at + 1) end))
     go false b q = refl
 
 -- seven bits more
-carry-more : (w a low : ℕ) (x : Number) → 0 < w → carried w a (more low x) ≡ carried (w * 128) (a + w * low) x
-carry-more w a low Bad h = refl
-carry-more w a low (Value v next) h = go (ltb (low + 128 * v) (2 ^ 64)) refl
+carry-more : (w a low : ℕ) (x : Option Number) → 0 < w → carried w a (more low x) ≡ carried (w * 128) (a + w * low) x
+carry-more w a low None h = refl
+carry-more w a low (Some x) h = go (ltb (low + 128 * v) (2 ^ 64)) refl
   where
+    v : ℕ
+    v = x.value
+
+    next : ℕ
+    next = x.next
+
     same : a + w * (low + 128 * v) ≡ a + w * low + w * 128 * v
     same = omega arith
 
-    go : (b : Bool) → ltb (low + 128 * v) (2 ^ 64) ≡ b → carried w a (cond b (Value (low + 128 * v) next) Bad) ≡ carried (w * 128) (a + w * low) (Value v next)
+    go : (b : Bool) → ltb (low + 128 * v) (2 ^ 64) ≡ b → carried w a (cond b (valued (low + 128 * v) next) None) ≡ carried (w * 128) (a + w * low) (valued v next)
     go true q = rw same
     go false q =
         let f : 2 ^ 64 ≤ low + 128 * v = ltb-false (low + 128 * v) (2 ^ 64) q in
@@ -96,14 +108,14 @@ module _ {s : List ℕ} {at end value weight i left : ℕ} (c : Carries s at end
   in-turn = ap (λ (n : ℕ). number_in n s i end) left_is
 
   -- no byte is there
-  pub carry-cut : end ≤ i → Bad ≡ number_at s at end
+  pub carry-cut : end ≤ i → None ≡ number_at s at end
   carry-cut h = sym (c.whole ∙ ap (carried weight value) (in-turn ∙ number_cut (left - 1) s i end h))
 
   module _ {b : ℕ} (q : b ≡ get_or s i 0) (h : i < end) where
     -- the last byte
-    pub carry-last : b < 128 → value + weight * b < 2 ^ 64 → Value (value + weight * b) (i + 1) ≡ number_at s at end
+    pub carry-last : b < 128 → value + weight * b < 2 ^ 64 → valued (value + weight * b) (i + 1) ≡ number_at s at end
     carry-last l f =
-        let r : number_in left s i end ≡ Value b (i + 1) = in-turn ∙ number-last (left - 1) s i end h (rw (← q) l) ∙ ap (λ (x : ℕ). Value x (i + 1)) (sym q) in
+        let r : number_in left s i end ≡ valued b (i + 1) = in-turn ∙ number-last (left - 1) s i end h (rw (← q) l) ∙ ap (λ (x : ℕ). valued x (i + 1)) (sym q) in
         sym (c.whole ∙ ap (carried weight value) r ∙ rw (lt-ltb (value + weight * b) (2 ^ 64) f))
 
     -- a byte with more behind it
@@ -111,7 +123,7 @@ module _ {s : List ℕ} {at end value weight i left : ℕ} (c : Carries s at end
     carry-next l m z =
         let k = c.below in
         let p : weight * (b - 128) ≤ weight * 127 = mul-le-mul_left weight (omega arith) in
-        let later : Number = number_in (left - 1) s (i + 1) end in
+        let later : Option Number = number_in (left - 1) s (i + 1) end in
         let r : number_in left s i end ≡ more (b - 128) later = in-turn ∙ number_more (left - 1) s i end h (rw (← q) m) ∙ ap (λ (x : ℕ). more (x - 128) later) (sym q) in
         record {
           some = omega arith;
@@ -122,13 +134,13 @@ module _ {s : List ℕ} {at end value weight i left : ℕ} (c : Carries s at end
         }
 
     -- a tenth byte of more than one bit
-    pub carry-long : left ≤ 1 → 1 < b → Bad ≡ number_at s at end
+    pub carry-long : left ≤ 1 → 1 < b → None ≡ number_at s at end
     unfolding number_in
     carry-long l m = sym (c.whole ∙ ap (λ (n : ℕ). carried weight value (number_in n s i end)) (last-left l) ∙ go (dec_lt b 128))
       where
-        go : Dec (b < 128) → carried weight value (number_in 1 s i end) ≡ Bad
+        go : Dec (b < 128) → carried weight value (number_in 1 s i end) ≡ None
         go (yes z) =
             let p : weight * 2 ≤ weight * b = mul-le-mul_left weight m in
-            let r : number_in 1 s i end ≡ Value b (i + 1) = number-last 0 s i end h (rw (← q) z) ∙ ap (λ (x : ℕ). Value x (i + 1)) (sym q) in
+            let r : number_in 1 s i end ≡ valued b (i + 1) = number-last 0 s i end h (rw (← q) z) ∙ ap (λ (x : ℕ). valued x (i + 1)) (sym q) in
             ap (carried weight value) r ∙ rw (le-ltb (value + weight * b) (2 ^ 64) (omega (arith, heavy l)))
         go (no z) = ap (carried weight value) (number_more 0 s i end h (rw (← q) (omega arith)))

@@ -2,23 +2,22 @@
 use mathlib.Core.Path.{◌≡◌}
 use mathlib.Core.Bool.{true, false, not}
 use mathlib.Core.List.{List}
+use Rattle.std.specs.Prelude.{None}
 use Prim.Native.Nat.{ℕ, ◌+◌, ◌-◌, ◌/◌, ◌%◌, ◌≤◌, ◌<◌}
 use native.Mathlib.Decide.{ℕ_discrete}
 use native.Mathlib.Omega.{arith}
 use borrow.Author.Tests.{le-leb, lt-leb, eq-eqb, ne_eqb}
-use Rattle.wire.specs.declared.Number.TheVariants.{Value, Bad}
-use Rattle.wire.specs.declared.Field.TheVariants.{Whole, Fault}
 use Rattle.protocol.specs.Numbers.{other_type, zero_field, wrong_type, bad_number, past_end}
-use Rattle.wire.specs.Base128.{number_at}
-use Rattle.wire.specs.Fields.{store_keys, readable, misfit, numbered, fixed, measured, value_at, keyed, field_at, known}
+use Rattle.wire.specs.Base128.{valued, number_at}
+use Rattle.wire.specs.Fields.{whole, faulty, store_keys, readable, misfit, numbered, fixed, measured, value_at, keyed, field_at, known}
 
 -- a value of a known size
 module _ (n k size start end : ℕ) where
-  pub fixed-whole : size ≤ end - start → Whole n k start (start + size) ≡ fixed n k size start end
+  pub fixed-whole : size ≤ end - start → whole n k start (start + size) ≡ fixed n k size start end
   unfolding fixed
   fixed-whole h = rw (le-leb size (end - start) h)
 
-  pub fixed-past : end - start < size → Fault past_end ≡ fixed n k size start end
+  pub fixed-past : end - start < size → faulty past_end ≡ fixed n k size start end
   unfolding fixed
   fixed-past h = rw (lt-leb size (end - start) h)
 
@@ -32,16 +31,16 @@ module _ (n k : ℕ) (s : List ℕ) (start end : ℕ) where
   unfolding value_at
   value-four e = rw (ne_eqb k 0 (λ (z : k ≡ 0). omega arith), ne_eqb k 1 (λ (z : k ≡ 1). omega arith), eq-eqb k 5 e)
 
-  pub value-bad : (k ≡ 1 → ⊥) → (k ≡ 5 → ⊥) → number_at s start end ≡ Bad → Fault bad_number ≡ value_at n k s start end
+  pub value-bad : (k ≡ 1 → ⊥) → (k ≡ 5 → ⊥) → number_at s start end ≡ None → faulty bad_number ≡ value_at n k s start end
   unfolding value_at numbered measured
   value-bad a b e = go (ℕ_discrete k 0)
     where
-      go : Dec (k ≡ 0) → Fault bad_number ≡ value_at n k s start end
+      go : Dec (k ≡ 0) → faulty bad_number ≡ value_at n k s start end
       go (yes z) = rw (eq-eqb k 0 z, e)
       go (no z) = rw (ne_eqb k 0 z, ne_eqb k 1 a, ne_eqb k 5 b, e)
 
-  module _ {v next : ℕ} (e : number_at s start end ≡ Value v next) where
-    pub value-number : k ≡ 0 → Whole n k start next ≡ value_at n k s start end
+  module _ {v next : ℕ} (e : number_at s start end ≡ valued v next) where
+    pub value-number : k ≡ 0 → whole n k start next ≡ value_at n k s start end
     unfolding value_at numbered
     value-number z = rw (eq-eqb k 0 z, e, z)
 
@@ -51,22 +50,22 @@ module _ (n k : ℕ) (s : List ℕ) (start end : ℕ) where
 
 -- a field at a place
 module _ (s : List ℕ) (at end : ℕ) where
-  pub field-bad : number_at s at end ≡ Bad → Fault bad_number ≡ field_at store_keys s at end
+  pub field-bad : number_at s at end ≡ None → faulty bad_number ≡ field_at store_keys s at end
   unfolding field_at keyed
   field-bad e = rw e
 
-  module _ {v next : ℕ} (e : number_at s at end ≡ Value v next) where
-    pub field-other : not (readable (v % 8)) ≡ true → Fault other_type ≡ field_at store_keys s at end
+  module _ {v next : ℕ} (e : number_at s at end ≡ valued v next) where
+    pub field-other : not (readable (v % 8)) ≡ true → faulty other_type ≡ field_at store_keys s at end
     unfolding field_at keyed
     field-other a = rw (e, a)
 
     module _ (a : not (readable (v % 8)) ≡ false) where
-      pub field-zero : v / 8 ≡ 0 → Fault zero_field ≡ field_at store_keys s at end
+      pub field-zero : v / 8 ≡ 0 → faulty zero_field ≡ field_at store_keys s at end
       unfolding field_at keyed known
       field-zero b = rw (e, a, eq-eqb (v / 8) 0 b)
 
       module _ (b : v / 8 ≡ 0 → ⊥) where
-        pub field-wrong : misfit 2 (v / 8) (v % 8) ≡ true → Fault wrong_type ≡ field_at store_keys s at end
+        pub field-wrong : misfit 2 (v / 8) (v % 8) ≡ true → faulty wrong_type ≡ field_at store_keys s at end
         unfolding field_at keyed known
         field-wrong c = rw (e, a, ne_eqb (v / 8) 0 b, c)
 

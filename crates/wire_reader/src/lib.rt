@@ -4,20 +4,16 @@
 ghost use Rattle.std.specs.Prelude.{◌≡◌, ◌≤◌, length};
 ghost use Rattle.wire.specs.Base128.{number_at};
 ghost use Rattle.wire.specs.Fields.{store_keys, fixed, value_at, field_at};
-ghost use Rattle.wire.specs.Walk.{walk};
-ghost use Rattle.wire_reader.specs.Last.{LastIs};
+ghost use Rattle.wire.specs.Verdict.{verdict};
+ghost use Rattle.wire.specs.Walk.{walk, last};
+ghost use Rattle.std.specs.Iterator.{YieldsFirst, item_count};
+ghost use Rattle.wire.specs.Numbered.{fields_from};
 
 use protocol::Code;
 use wire::{Field, Number};
 
-fn wide(x: u8) -> u64
-    ensures { result ≡ x }
-{
-    x as u64
-}
-
-// The number at a place: nine bytes of seven bits, and a tenth of one.
-pub fn number_at(s: &[u8], at: usize, end: usize) -> Number
+// The number at a place, if it is whole: nine bytes of seven bits, and a tenth of one.
+pub fn number_at(s: &[u8], at: usize, end: usize) -> Option<Number>
     requires { end ≤ length s.now }
     ensures { result ≡ number_at s.now at end }
 {
@@ -27,54 +23,51 @@ pub fn number_at(s: &[u8], at: usize, end: usize) -> Number
     let mut left: usize = 10;
     while 1 < left {
         if end <= i {
-            return Number::Bad;
+            return None;
         }
-        let b = wide(s[i]);
+        let b = u64::from(s[i]);
         i += 1;
         if b < 128 {
-            return Number::Value {
+            return Some(Number {
                 value: value + weight * b,
                 next: i,
-            };
+            });
         }
         value += weight * (b - 128);
         weight = weight * 128;
         left -= 1;
     }
     if end <= i {
-        return Number::Bad;
+        return None;
     }
-    let b = wide(s[i]);
+    let b = u64::from(s[i]);
     if 1 < b {
-        return Number::Bad;
+        return None;
     }
-    Number::Value {
+    Some(Number {
         value: value + weight * b,
         next: i + 1,
-    }
+    })
 }
 
 // A value of `size` bytes.
-fn fixed_at(number: u64, kind: u8, size: usize, start: usize, end: usize) -> Field
+fn fixed_at(number: u64, kind: u8, size: usize, start: usize, end: usize) -> Result<Field, Code>
     requires { start ≤ end }
     ensures { result ≡ fixed number kind size start end }
 {
-    if size <= end - start {
-        Field::Whole {
-            number,
-            kind,
-            start,
-            next: start + size,
-        }
-    } else {
-        Field::Fault {
-            code: Code::PAST_END.0,
-        }
+    if end - start < size {
+        return Err(Code::PAST_END);
     }
+    Ok(Field {
+        number,
+        kind,
+        start,
+        next: start + size,
+    })
 }
 
 // The value of a field, behind its key.
-fn value_at(number: u64, kind: u8, s: &[u8], start: usize, end: usize) -> Field
+fn value_at(number: u64, kind: u8, s: &[u8], start: usize, end: usize) -> Result<Field, Code>
     requires { (start ≤ end) × (end ≤ length s.now) }
     ensures { result ≡ value_at number kind s.now start end }
 {
@@ -84,119 +77,102 @@ fn value_at(number: u64, kind: u8, s: &[u8], start: usize, end: usize) -> Field
     if kind == 5 {
         return fixed_at(number, kind, 4, start, end);
     }
-    let first = number_at(s, start, end);
-    let Number::Value { value, next } = first else {
-        return Field::Fault {
-            code: Code::BAD_NUMBER.0,
-        };
-    };
+    let first = number_at(s, start, end).ok_or(Code::BAD_NUMBER)?;
     if kind == 0 {
-        return Field::Whole {
+        return Ok(Field {
             number,
             kind,
             start,
-            next,
-        };
+            next: first.next,
+        });
     }
-    fixed_at(number, 2, value as usize, next, end)
+    fixed_at(number, 2, first.value as usize, first.next, end)
 }
 
-// The field at a place of a message that ends at `end`.
-pub fn field_at(s: &[u8], at: usize, end: usize) -> Field
+// The field at a place of a message that ends at `end`, or the fault there.
+pub fn field_at(s: &[u8], at: usize, end: usize) -> Result<Field, Code>
     requires { end ≤ length s.now }
     ensures { result ≡ field_at store_keys s.now at end }
 {
-    let key = number_at(s, at, end);
-    let Number::Value { value, next } = key else {
-        return Field::Fault {
-            code: Code::BAD_NUMBER.0,
-        };
-    };
-    let kind = (value % 8) as u8;
-    let number = value / 8;
+    let key = number_at(s, at, end).ok_or(Code::BAD_NUMBER)?;
+    let kind = (key.value % 8) as u8;
+    let number = key.value / 8;
     if !((kind <= 2) | (kind == 5)) {
-        return Field::Fault {
-            code: Code::OTHER_TYPE.0,
-        };
+        return Err(Code::OTHER_TYPE);
     }
     if number == 0 {
-        return Field::Fault {
-            code: Code::ZERO_FIELD.0,
-        };
+        return Err(Code::ZERO_FIELD);
     }
     if !(kind == 2) & (number <= 2) {
-        return Field::Fault {
-            code: Code::WRONG_TYPE.0,
-        };
+        return Err(Code::WRONG_TYPE);
     }
-    value_at(number, kind, s, next, end)
+    value_at(number, kind, s, key.next, end)
 }
 
-// The first fault of a message, or 0.
-pub fn fault_in(s: &[u8], from: usize, end: usize) -> u8
+// The first fault of a message, if it has one.
+pub fn fault_in(s: &[u8], from: usize, end: usize) -> Result<(), Code>
     requires { end ≤ length s.now }
-    ensures { result ≡ (walk store_keys s.now from end).fault }
+    ensures { result ≡ verdict (walk store_keys s.now from end).fault }
 {
     let mut at = from;
     while at < end {
-        let field = field_at(s, at, end);
-        match field {
-            Field::Fault { code } => {
-                return code;
-            }
-            Field::Whole {
-                number: _,
-                kind: _,
-                start: _,
-                next,
-            } => {
-                at = next;
-            }
-        }
+        let field = field_at(s, at, end)?;
+        at = field.next;
     }
-    0
+    Ok(())
 }
 
-// A part of the buffer.
+// The fields of one number in a message, in their order, up to its end or its first fault.
 #[derive(Clone, Copy)]
-pub struct Span {
-    pub start: usize,
+pub struct Fields<'a> {
+    pub s: &'a [u8],
+    pub at: usize,
     pub end: usize,
+    pub wanted: u64,
+    pub ghost inside: { end ≤ length s.now },
+}
+
+impl<'a> Fields<'a> {
+    pub fn new(s: &'a [u8], from: usize, end: usize, wanted: u64) -> Fields<'a>
+        requires { end ≤ length s.now }
+        ensures { fields_from result.s.now result.at result.end result.wanted ≡ fields_from s.now from end wanted }
+    {
+        Fields {
+            s,
+            at: from,
+            end,
+            wanted,
+        }
+    }
+}
+
+impl<'a> Iterator for Fields<'a> {
+    type Item = Field;
+
+    ghost next_gives = { YieldsFirst (λ f. fields_from f.s.now f.at f.end f.wanted) };
+
+    ghost remaining = { item_count (λ f. fields_from f.s.now f.at f.end f.wanted) };
+
+    fn next(&mut self) -> Option<Field> {
+        while self.at < self.end {
+            let field = field_at(self.s, self.at, self.end).ok()?;
+            self.at = field.next;
+            if field.number == self.wanted {
+                return Some(field);
+            }
+        }
+        None
+    }
 }
 
 // The value of the last field of a number, or no bytes.
-pub fn last_field(s: &[u8], from: usize, end: usize, wanted: u64) -> Span
+pub fn last_field(s: &[u8], from: usize, end: usize, wanted: u64) -> &[u8]
     requires { end ≤ length s.now }
-    ensures { LastIs s.now from end wanted result.start result.end }
+    ensures { result.now ≡ last s.now wanted (walk store_keys s.now from end).items }
 {
-    let mut at = from;
-    let mut first: usize = 0;
-    let mut stop: usize = 0;
-    while at < end {
-        let field = field_at(s, at, end);
-        match field {
-            Field::Fault { code: _ } => {
-                return Span {
-                    start: first,
-                    end: stop,
-                };
-            }
-            Field::Whole {
-                number,
-                kind: _,
-                start,
-                next,
-            } => {
-                if number == wanted {
-                    first = start;
-                    stop = next;
-                }
-                at = next;
-            }
-        }
+    let mut value: &[u8] = &[];
+    for field in Fields::new(s, from, end, wanted) {
+        value = &s[field.start..field.next];
     }
-    Span {
-        start: first,
-        end: stop,
-    }
+    value
 }

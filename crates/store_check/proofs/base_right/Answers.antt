@@ -2,8 +2,12 @@
 use Rattle.std.proofs.Common.{◌∙◌, ap, List, ℕ}
 use Rattle.laws.specs.Bytes.{same}
 use Rattle.protocol.specs.Names.{base}
+use Rattle.store_names.proofs.Equal.{equal-same}
 use Rattle.store_check.proofs.base_right.Goals as goal
 
 pub returns : goal.returns
 unfolding base
-returns c = c.same_bytes.ensures ∙ ap (λ (n : List ℕ). same n base) c.last_field-field.ensures.value
+returns c =
+    equal-same _ _ _ c.eq.ensures
+    ∙ ap (λ (n : List ℕ). same n c.as_slice.result.now) c.last_field.ensures
+    ∙ ap (same _) c.as_slice.ensures

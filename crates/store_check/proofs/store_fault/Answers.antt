@@ -1,49 +1,48 @@
 -- `store_fault`: the fault of the file is the fault of what is still to come.
 use Rattle.std.proofs.Common.{refl, sym, ◌∙◌, arith}
 use Rattle.store_check.proofs.Ways.{store-end, store_found, store-inner, store-blob, store_other}
-use Rattle.store_file.specs.Messages.{inside}
 use Rattle.store_file.specs.ScanLaws.{Here}
+use Rattle.wire.proofs.Passed.{passed}
 use Rattle.wire.proofs.Steps.{here-within, here-less}
 use Rattle.store_check.proofs.store_fault.Goals as goal
-use Rattle.store_check.proofs.store_fault.Goals.{In-Whole}
+use Rattle.store_check.proofs.store_fault.Goals.{In_ok-field}
 
 -- the field that stands at the place
-here : (c : In-Whole)
-    → Here c.args.file.now c.loop-at.at c.in-Whole.number c.in-Whole.kind c.in-Whole.start c.in-Whole.next
-here c = record { inside = omega arith; field = sym c.field_at-field.ensures ∙ c.in-Whole.is }
+here : (c : In_ok-field) → let f = c.in_ok-field.field in
+    Here c.args.file.now c.loop-at.at f.number f.kind f.start f.next
+here c = record { inside = omega arith; field = sym c.field_at.ensures ∙ c.in_ok-field.was }
 
 pub loop-at-init : goal.loop-at-init
 loop-at-init c = refl
 
-pub field_at-field-requires : goal.field_at-field-requires
-field_at-field-requires c = omega arith
-
-pub returns-in-Fault : goal.returns-in-Fault
-returns-in-Fault c =
+pub returns-in_err-field : goal.returns-in_err-field
+returns-in_err-field c =
     let l = c.loop-at in
-    store_found c.args.file.now l.at l.invariant c.in-Fault.code (omega arith) (sym c.field_at-field.ensures ∙ c.in-Fault.is)
+    passed c.from_residual.result _ c.from_residual.ensures
+    ∙ store_found c.args.file.now l.at l.invariant c.in_err-field.field-0.0 (omega arith) (sym c.field_at.ensures ∙ c.in_err-field.was)
 
-pub fault_in-inner-requires : goal.fault_in-inner-requires
-fault_in-inner-requires c = here-within (here (goal.at.fault_in-inner-requires c).In-Whole)
+pub fault_in-requires : goal.fault_in-requires
+fault_in-requires c = here-within (here (goal.at.fault_in-requires c).In_ok-field)
 
-pub returns-then-inner-ne0 : goal.returns-then-inner-ne0
-returns-then-inner-ne0 c =
-    let inner = c.fault_in-inner in
-    store-inner _ c.loop-at.at c.loop-at.invariant _ _ _ _ (here (goal.at.returns-then-inner-ne0 c).In-Whole) inner.result c.if-number-eq-STORE_BLOB.true inner.ensures c.if-inner-ne0.true
+pub returns-in_err-fault_in : goal.returns-in_err-fault_in
+returns-in_err-fault_in c =
+    passed c.from_residual-in_err-fault_in.result _ c.from_residual-in_err-fault_in.ensures
+    ∙ store-inner _ c.loop-at.at c.loop-at.invariant _ _ _ _ (here (goal.at.returns-in_err-fault_in c).In_ok-field) _ c.if-field-eq-STORE_BLOB.true
+    (sym c.fault_in.ensures ∙ c.in_err-fault_in.was)
 
-pub loop-at-smaller-else-inner-ne0 : goal.loop-at-smaller-else-inner-ne0
-loop-at-smaller-else-inner-ne0 c = here-less (here (goal.at.loop-at-smaller-else-inner-ne0 c).In-Whole)
+pub loop-at-smaller-in_ok-fault_in : goal.loop-at-smaller-in_ok-fault_in
+loop-at-smaller-in_ok-fault_in c = here-less (here (goal.at.loop-at-smaller-in_ok-fault_in c).In_ok-field)
 
-pub loop-at-preserved-else-inner-ne0 : goal.loop-at-preserved-else-inner-ne0
-loop-at-preserved-else-inner-ne0 c =
-    let inner = c.fault_in-inner in
-    store-blob _ c.loop-at.at c.loop-at.invariant _ _ _ _ (here (goal.at.loop-at-preserved-else-inner-ne0 c).In-Whole) inner.result c.if-number-eq-STORE_BLOB.true inner.ensures c.if-inner-ne0.false
+pub loop-at-preserved-in_ok-fault_in : goal.loop-at-preserved-in_ok-fault_in
+loop-at-preserved-in_ok-fault_in c =
+    store-blob _ c.loop-at.at c.loop-at.invariant _ _ _ _ (here (goal.at.loop-at-preserved-in_ok-fault_in c).In_ok-field) c.if-field-eq-STORE_BLOB.true
+    (sym c.fault_in.ensures ∙ c.in_ok-fault_in.was)
 
 pub loop-at-smaller : goal.loop-at-smaller
-loop-at-smaller c = here-less (here (goal.at.loop-at-smaller c).In-Whole)
+loop-at-smaller c = here-less (here (goal.at.loop-at-smaller c).In_ok-field)
 
 pub loop-at-preserved : goal.loop-at-preserved
-loop-at-preserved c = store_other _ c.loop-at.at c.loop-at.invariant _ _ _ _ (here (goal.at.loop-at-preserved c).In-Whole) c.if-number-eq-STORE_BLOB.false
+loop-at-preserved c = store_other _ c.loop-at.at c.loop-at.invariant _ _ _ _ (here (goal.at.loop-at-preserved c).In_ok-field) c.if-field-eq-STORE_BLOB.false
 
 pub returns : goal.returns
 returns c = let l = c.loop-at in store-end c.args.file.now l.at l.invariant (omega arith)

@@ -1,10 +1,7 @@
--- `test_all`: what is found so far and what is still to come say the whole.
-use Rattle.std.proofs.Common.{◌-◌, length}
+-- `test_all`: what is found so far and what is left say the whole.
+use Rattle.wire_reader.specs.Left.{left}
 use Rattle.store_check.proofs.Ways.{Testing}
 use Rattle.store_check.proofs.test_all.Given as goal
 
-abbrev pub invariant-loop-at : goal.invariant-loop-at
-invariant-loop-at l = Testing l.file l.at l.names l.sizes l.count
-
-abbrev pub decreases-loop-at : goal.decreases-loop-at
-decreases-loop-at l = length l.file - l.at
+abbrev pub invariant-loop-blob : goal.invariant-loop-blob
+invariant-loop-blob l = Testing l.file (left l.blob-iterator) l.tests.names l.tests.sizes l.tests.count

@@ -20,7 +20,7 @@ unfolding fresh
 returns c =
     λ t i h.
     let a = c.args in
-    let v = a.control in
+    let v = a.control.now in
     let n = c.clear_at.ensures ∙ cleared (slot_count * name_size) 512 a.names.now (ap (λ (k : ℕ). slot_count * k) name-size) c.requires.0 in
     let g = c.clear_at-2.ensures ∙ cleared (slot_count * slot_size) 65536 a.committed.now (ap (λ (k : ℕ). slot_count * k) slot-size) c.requires.1.0 in
     let s = c.clear_at-3.ensures ∙ cleared (slot_count * slot_size) 65536 a.staged.now (ap (λ (k : ℕ). slot_count * k) slot-size) c.requires.1.1 in

@@ -1,7 +1,5 @@
 -- `load`: the state is tested, then its sessions, then the file; then the store is cleared and filled.
 use Rattle.std.proofs.Common.{ap, ◌≡◌, sym, ◌∙◌, true, false}
-use Rattle.std.specs.Prelude.{not}
-use Rattle.laws.specs.All.{flag_true, flag-false}
 use Rattle.protocol.specs.Numbers.{success}
 use Rattle.state.specs.Agree.{sound-of-test}
 use Rattle.state.specs.Parts.{Shape}
@@ -13,61 +11,64 @@ use Rattle.store_file.specs.Messages.{reading}
 use Rattle.store_file.specs.Scans.{scans_from}
 use Rattle.store_loader.proofs.Laws.{load-unsound, load-open, load-refused, load_stored, clean-storable}
 use Rattle.store_loader.specs.Filling.{filling}
+use Rattle.wire.proofs.Passed.{passed}
+use Rattle.wire.proofs.Verdicts.{good-verdict}
 use Rattle.store_loader.proofs.load.Goals as goal
-use Rattle.store_loader.proofs.load.Goals.{Else-not-sound, Else-reason-ne0, Else-store_open}
+use Rattle.store_loader.proofs.load.Goals.{Start, Else-not-sound, In_ok-reason_against, Else-store_open}
 
-shape : (c : Else-not-sound) → Shape ((let a = c.args in state_of a.control a.table.now a.names.now a.committed.now a.staged.now a.image.now a.hash.now))
-shape c = (sound-of-test ((let a = c.args in state_of a.control a.table.now a.names.now a.committed.now a.staged.now a.image.now a.hash.now))
-    ((let the-fact : is_sound ((let a = c.args in state_of a.control a.table.now a.names.now a.committed.now a.staged.now a.image.now a.hash.now)) ≡
-    true = flag_true c.sound.ensures (ap not c.if-not-sound.false) in the-fact))).shape
+-- the state that is lent
+abbrev lent : Start → State
+lent c = let a = c.args in state_of a.control.now a.table.now a.names.now a.committed.now a.staged.now a.image.now a.hash.now
 
-is-closed : (c : Else-store_open) → store_open ((let a = c.args in state_of a.control a.table.now a.names.now a.committed.now a.staged.now a.image.now a.hash.now)) ≡ false
-is-closed c = sym (c.store_open.ensures ((let a = c.args in state_of a.control a.table.now a.names.now a.committed.now a.staged.now a.image.now a.hash.now))) ∙ c.if-store_open.false
+-- what each test says once it is passed
+passes : (c : Else-not-sound) → is_sound (lent (goal.at.Else-not-sound c).Start) ≡ true
+passes c = sym c.sound.ensures ∙ c.if-not-sound.false
 
-no-reason : (c : Else-reason-ne0) → reason (reading c.args.file.now) ≡ success
-no-reason c = sym c.reason_against-reason.ensures ∙ c.if-reason-ne0.false
+shape : (c : Else-not-sound) → Shape (lent (goal.at.Else-not-sound c).Start)
+shape c = (sound-of-test _ (passes c)).shape
 
-pub returns-then-not-sound : goal.returns-then-not-sound
-returns-then-not-sound c = load-unsound c.args.file.now ((let a = c.args in state_of a.control a.table.now a.names.now a.committed.now a.staged.now
-    a.image.now a.hash.now)) (flag-false c.sound.ensures (ap not c.if-not-sound.true))
+is-closed : (c : Else-store_open) → store_open (lent (goal.at.Else-store_open c).Start) ≡ false
+is-closed c = sym (c.store_open.ensures (lent (goal.at.Else-store_open c).Start)) ∙ c.if-store_open.false
+
+no-reason : (c : In_ok-reason_against) → reason (reading c.args.file.now) ≡ success
+no-reason c = good-verdict _ (sym c.reason_against.ensures ∙ c.in_ok-reason_against.was)
+
+pub returns-then-not-sound-clause-loads : goal.returns-then-not-sound-clause-loads
+returns-then-not-sound-clause-loads c = load-unsound _ _ (sym c.sound.ensures ∙ c.if-not-sound.true)
 
 pub store_open-requires : goal.store_open-requires
 store_open-requires c = (shape (goal.at.store_open-requires c).Else-not-sound).table-size
 
-pub returns-then-store_open : goal.returns-then-store_open
-returns-then-store_open c =
-    load-open c.args.file.now ((let a = c.args in state_of a.control a.table.now a.names.now a.committed.now a.staged.now a.image.now a.hash.now))
-    ((let the-fact : is_sound ((let a = c.args in state_of a.control a.table.now a.names.now a.committed.now a.staged.now a.image.now a.hash.now))
-    ≡ true = flag_true c.sound.ensures (ap not c.if-not-sound.false) in the-fact)) (sym (c.store_open.ensures ((let a = c.args in state_of
-    a.control a.table.now a.names.now a.committed.now a.staged.now a.image.now a.hash.now))) ∙ c.if-store_open.true)
+pub returns-then-store_open-clause-loads : goal.returns-then-store_open-clause-loads
+returns-then-store_open-clause-loads c =
+    let p = goal.at.returns-then-store_open-clause-loads c in
+    load-open _ _ (passes p.Else-not-sound) (sym (c.store_open.ensures (lent p.Start)) ∙ c.if-store_open.true)
 
-pub returns-then-reason-ne0 : goal.returns-then-reason-ne0
-returns-then-reason-ne0 c =
-    let judged = c.reason_against-reason in
-    load-refused c.args.file.now ((let a = c.args in state_of a.control a.table.now a.names.now a.committed.now a.staged.now a.image.now a.hash.now))
-    ((let the-fact : is_sound ((let a = c.args in state_of a.control a.table.now a.names.now a.committed.now a.staged.now a.image.now a.hash.now))
-    ≡ true = flag_true c.sound.ensures (ap not c.if-not-sound.false) in the-fact)) (is-closed (goal.at.returns-then-reason-ne0 c).Else-store_open)
-    judged.result.0 judged.ensures c.if-reason-ne0.true
+pub returns-in_err-reason_against-clause-loads : goal.returns-in_err-reason_against-clause-loads
+returns-in_err-reason_against-clause-loads c =
+    let p = goal.at.returns-in_err-reason_against-clause-loads c in
+    rw (passed c.from_residual.result _ c.from_residual.ensures)
+    (load-refused _ _ (passes p.Else-not-sound) (is-closed p.Else-store_open) _ (sym c.reason_against.ensures ∙ c.in_err-reason_against.was))
 
-pub clear_store-cleared-requires : goal.clear_store-cleared-requires
-clear_store-cleared-requires c =
-    let s = shape (goal.at.clear_store-cleared-requires c).Else-not-sound in
+pub clear_store-requires : goal.clear_store-requires
+clear_store-requires c =
+    let s = shape (goal.at.clear_store-requires c).Else-not-sound in
     (s.names-size, (s.committed-size, s.staged-size))
 
-pub fill_all-filled-requires : goal.fill_all-filled-requires
-fill_all-filled-requires c =
-    let s = shape (goal.at.fill_all-filled-requires c).Else-not-sound in
-    (c.clear_store-cleared.auto.names ∙ s.names-size, (c.clear_store-cleared.auto.committed ∙ s.committed-size, clean-storable _ (no-reason (goal.at.fill_all-filled-requires c).Else-reason-ne0)))
+pub fill_all-requires : goal.fill_all-requires
+fill_all-requires c =
+    let p = goal.at.fill_all-requires c in
+    let s = shape p.Else-not-sound in
+    (c.clear_store.auto.names ∙ s.names-size, (c.clear_store.auto.committed ∙ s.committed-size, clean-storable _ (no-reason p.In_ok-reason_against)))
 
-pub returns : goal.returns
+pub returns-clause-loads : goal.returns-clause-loads
 unfolding fresh
-returns c =
+returns-clause-loads c =
     let a = c.args in
+    let p = goal.at.returns-clause-loads c in
     let file = a.file.now in
-    let e = c.clear_store-cleared.ensures a.table.now a.image.now a.hash.now in
+    let e = c.clear_store.ensures a.table.now a.image.now a.hash.now in
     let z = ap (λ (s : State). s.store.staged) e in
     ap (λ (s : State). record { code = success; state = s })
-    (c.fill_all-filled.ensures a.table.now _ a.image.now a.hash.now z ∙ ap (filling 0 (scans_from file 0)) e)
-    ∙ load_stored file ((let a = c.args in state_of a.control a.table.now a.names.now a.committed.now a.staged.now a.image.now a.hash.now))
-    ((let the-fact : is_sound ((let a = c.args in state_of a.control a.table.now a.names.now a.committed.now a.staged.now a.image.now a.hash.now))
-    ≡ true = flag_true c.sound.ensures (ap not c.if-not-sound.false) in the-fact)) (is-closed (goal.at.returns c).Else-store_open) (no-reason (goal.at.returns c).Else-reason-ne0)
+    (c.fill_all.ensures a.table.now _ a.image.now a.hash.now z ∙ ap (filling 0 (scans_from file 0)) e)
+    ∙ load_stored file (lent p.Start) (passes p.Else-not-sound) (is-closed p.Else-store_open) (no-reason p.In_ok-reason_against)

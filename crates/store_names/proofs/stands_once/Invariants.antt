@@ -1,17 +1,17 @@
--- `stands_once`: what is counted and what is still to come make the whole count.
-use Rattle.std.proofs.Common.{◌≡◌, List, ℕ, ◌+◌, ◌-◌, ◌≤◌, length}
-use Rattle.laws.specs.Ranges.{part}
-use Rattle.store_file.specs.Scans.{scans_from}
+-- `stands_once`: what is counted and what is left make the whole count.
+use Rattle.std.proofs.Common.{◌≡◌, ◌+◌, ◌≤◌, length}
+use Rattle.laws.specs.Merge.{All}
+use Rattle.wire.proofs.Standing.{Stands}
+use Rattle.wire_reader.specs.Left.{left}
+use Rattle.store_file.specs.Messages.{blob_field}
+use Rattle.store_file.specs.Scans.{scans_from, scans_in}
 use Rattle.store_names.specs.Names.{count_named}
 use Rattle.store_names.proofs.stands_once.Given as goal
 
--- the name between two places
-abbrev pub named : List ℕ → ℕ → ℕ → List ℕ
-named file first stop = part first (stop - first) file
-
-abbrev pub invariant-loop-at : goal.invariant-loop-at
-invariant-loop-at l =
-    (l.count ≤ l.at) × (count_named (named l.file l.first l.stop) (scans_from l.file 0) ≡ l.count + count_named (named l.file l.first l.stop) (scans_from l.file l.at))
-
-abbrev pub decreases-loop-at : goal.decreases-loop-at
-decreases-loop-at l = length l.file - l.at
+abbrev pub invariant-loop-blob : goal.invariant-loop-blob
+invariant-loop-blob l = let blobs = left l.blob-iterator in
+    record {
+      few : l.count + length blobs ≤ length l.file;
+      stand : All (Stands blob_field (length l.file)) blobs;
+      whole : count_named l.name (scans_from l.file 0) ≡ l.count + count_named l.name (scans_in l.file blobs);
+    }

@@ -1,10 +1,7 @@
--- `last_field`: what is found so far is the last, unless what is still to come has a later one.
-use Rattle.std.proofs.Common.{◌-◌}
-use Rattle.wire_reader.proofs.WalkWays.{Lasts}
+-- `last_field`: what is found so far is the last, unless a later one is left.
+use Rattle.wire_reader.specs.Left.{left}
+use Rattle.wire_reader.proofs.Numbers.{Lasts}
 use Rattle.wire_reader.proofs.last_field.Given as goal
 
-abbrev pub invariant-loop-at : goal.invariant-loop-at
-invariant-loop-at l = Lasts l.s l.from l.end l.wanted l.at l.first l.stop
-
-abbrev pub decreases-loop-at : goal.decreases-loop-at
-decreases-loop-at l = l.end - l.at
+abbrev pub invariant-loop-field : goal.invariant-loop-field
+invariant-loop-field l = Lasts l.s l.from l.end l.wanted l.value (left l.field-iterator)

@@ -5,18 +5,18 @@ use Rattle.wire_reader.proofs.number_at.Goals as goal
 use Rattle.wire_reader.proofs.number_at.Goals.{Else-b-gt1, Else-b-lt128, Then-b-lt128}
 
 -- the number with a last byte, with a byte that has more behind it, and with the tenth byte
-last_fits : (c : Then-b-lt128) → let l = c.loop-left in l.value + l.weight * c.wide-b.result < 2 ^ 64
-last_fits c = part-light c.loop-left.invariant c.wide-b.result (omega arith) (omega arith)
+last_fits : (c : Then-b-lt128) → let l = c.loop-left in l.value + l.weight * c.from-b.result < 2 ^ 64
+last_fits c = part-light c.loop-left.invariant c.from-b.result (omega arith) (omega arith)
 
-more-fits : (c : Else-b-lt128) → let l = c.loop-left in l.value + l.weight * (c.wide-b.result - 128) < 2 ^ 64
-more-fits c = part-light c.loop-left.invariant (c.wide-b.result - 128) (omega arith) (omega (
+more-fits : (c : Else-b-lt128) → let l = c.loop-left in l.value + l.weight * (c.from-b.result - 128) < 2 ^ 64
+more-fits c = part-light c.loop-left.invariant (c.from-b.result - 128) (omega arith) (omega (
   arith,
-  (let the-fact : c.wide-b.result < 256 = omega
+  (let the-fact : c.from-b.result < 256 = omega
       (arith, c.shared_slice_known-in-loop-left-1.given c.loop-left.i) in the-fact),
 ))
 
-tenth-fits : (c : Else-b-gt1) → let l = c.loop-left in l.value + l.weight * c.wide-b-2.result < 2 ^ 64
-tenth-fits c = part-heavy c.loop-left.invariant c.wide-b-2.result (omega arith) (omega arith)
+tenth-fits : (c : Else-b-gt1) → let l = c.loop-left in l.value + l.weight * c.from-b-2.result < 2 ^ 64
+tenth-fits c = part-heavy c.loop-left.invariant c.from-b-2.result (omega arith) (omega arith)
 
 pub loop-left-init : goal.loop-left-init
 loop-left-init c = let a = c.args in carry-start a.s.now a.at a.end
@@ -38,7 +38,7 @@ overflow_add-result c = omega (arith, last_fits (goal.at.overflow_add-result c).
 
 pub returns-then-b-lt128 : goal.returns-then-b-lt128
 returns-then-b-lt128 c =
-    carry-last c.loop-left.invariant c.wide-b.ensures c.if-end-i.false c.if-b-lt128.true (last_fits (goal.at.returns-then-b-lt128 c).Then-b-lt128)
+    carry-last c.loop-left.invariant c.from-b.ensures c.if-end-i.false c.if-b-lt128.true (last_fits (goal.at.returns-then-b-lt128 c).Then-b-lt128)
 
 pub overflow_mul-value : goal.overflow_mul-value
 overflow_mul-value c = omega (arith, more-fits (goal.at.overflow_mul-value c).Else-b-lt128)
@@ -57,7 +57,7 @@ loop-left-smaller c = omega arith
 
 pub loop-left-preserved : goal.loop-left-preserved
 loop-left-preserved c =
-    carry-next c.loop-left.invariant c.wide-b.ensures c.if-end-i.false (omega arith) (omega arith) ((let the-fact : c.wide-b.result < 256 = omega
+    carry-next c.loop-left.invariant c.from-b.ensures c.if-end-i.false (omega arith) (omega arith) ((let the-fact : c.from-b.result < 256 = omega
     (arith, c.shared_slice_known-in-loop-left-1.given c.loop-left.i) in the-fact))
 
 pub returns-then-end-i-2 : goal.returns-then-end-i-2
@@ -68,7 +68,7 @@ bounds-s-i-2 c = omega arith
 
 pub returns-then-b-gt1 : goal.returns-then-b-gt1
 returns-then-b-gt1 c =
-    carry-long c.loop-left.invariant c.wide-b-2.ensures c.if-end-i-2.false (omega arith) c.if-b-gt1.true
+    carry-long c.loop-left.invariant c.from-b-2.ensures c.if-end-i-2.false (omega arith) c.if-b-gt1.true
 
 pub overflow_mul-result-2 : goal.overflow_mul-result-2
 overflow_mul-result-2 c = omega (arith, tenth-fits (goal.at.overflow_mul-result-2 c).Else-b-gt1)
@@ -81,4 +81,4 @@ overflow_add-result-3 c = omega arith
 
 pub returns : goal.returns
 returns c =
-    carry-last c.loop-left.invariant c.wide-b-2.ensures c.if-end-i-2.false (omega arith) (tenth-fits (goal.at.returns c).Else-b-gt1)
+    carry-last c.loop-left.invariant c.from-b-2.ensures c.if-end-i-2.false (omega arith) (tenth-fits (goal.at.returns c).Else-b-gt1)
