@@ -7,7 +7,7 @@ use Rattle.state.specs.State.{Slots, store_of, state_of, in_store}
 use Rattle.open_steps.proofs.new_slot.Goals as goal
 
 pub put_name-requires : goal.put_name-requires
-put_name-requires c = let p = c.requires in (p.1.1, (p.0, (omega (arith, name-size, p.1.0.1), p.1.0.0)))
+put_name-requires c = grind (arith, name-size)
 
 pub returns : goal.returns
 returns c =
