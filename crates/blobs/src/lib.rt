@@ -1,32 +1,17 @@
 // The public library: one request, or one job outcome, on the state that the caller lends.
 #![tactic(auto)]
 
-ghost use Rattle.std.specs.Prelude.{◌≡◌};
+ghost use Rattle.std.specs.Prelude.{◌≡◌, ◌≢◌, IfErr};
+ghost use Rattle.protocol.specs.Numbers.{success};
 ghost use Rattle.state.specs.State.{state_of};
 ghost use Rattle.state.specs.Memory.{state_in, SameMemory};
-ghost use Rattle.state.specs.Soundness.{is_sound};
 ghost use Rattle.rules.specs.Respond.{job_outcome, served};
 ghost use Rattle.request_answer.specs.Call.{served_of};
 ghost use Rattle.blobs.specs.Call.{job_effect_of};
 
 use protocol::{ANSWER_SIZE, Code};
-use sound::sound;
+use sound::{is_sound, sound};
 use state::{Control, Memory};
-
-// What is lent makes a sound state.
-fn is_sound(memory: &Memory<'_>) -> bool
-    ensures { result ≡ is_sound (state_in memory.now) }
-{
-    sound(
-        memory.control,
-        memory.table,
-        memory.names,
-        memory.committed,
-        memory.staged,
-        memory.image,
-        memory.hash,
-    )
-}
 
 // Answers one request: how long the response is, or the code of a refusal, which changes nothing. The caller lends the control block, the
 // session table (64 words), the names (512 bytes), the committed and staged regions (65,536 bytes each), the image (16,384 bytes) and the hash
@@ -56,7 +41,8 @@ pub fn job_outcome(
     image: &[u8],
     hash: &[u8],
 ) -> Result<(), Code>
-    ensures { job_effect_of result control table.new names.now committed.now staged.now image.now hash.now ≡ job_outcome good (state_of control table.old names.now committed.now staged.now image.now hash.now) }
+    ensures refused { IfErr result (λ code. code.0 ≢ success) }
+    ensures taken { job_effect_of result control table.new names.now committed.now staged.now image.now hash.now ≡ job_outcome good (state_of control table.old names.now committed.now staged.now image.now hash.now) }
 {
     if !sound(control, table, names, committed, staged, image, hash) {
         return Err(Code::NOT_SOUND);

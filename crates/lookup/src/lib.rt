@@ -1,11 +1,11 @@
 // What is looked up: the row of a session, the slot of a store name, the set bit of a number, the identifier for a new session. (Free places: `state::mask::lowest_free`.)
 #![tactic(auto)]
 
-ghost use Rattle.std.specs.Prelude.{◌≡◌, ℕ, ◌+◌, ◌*◌, ◌≤◌, ◌<◌, length, get_or};
+ghost use Rattle.std.specs.Prelude.{◌≡◌, ◌≢◌, IfErr, ℕ, ◌+◌, ◌*◌, ◌≤◌, ◌<◌, length, get_or};
 ghost use Rattle.std.specs.Int.Count.{ones};
 ghost use Rattle.laws.specs.Ranges.{part, block};
 ghost use Rattle.laws.specs.Bytes.{padded, same};
-ghost use Rattle.protocol.specs.Numbers.{row_count, slot_count, name_size, sixteen_bits};
+ghost use Rattle.protocol.specs.Numbers.{success, row_count, slot_count, name_size, sixteen_bits};
 ghost use Rattle.state.specs.declared.row.Wanted.TheVariants.{Id};
 ghost use Rattle.state.specs.Entry.{words_of};
 ghost use Rattle.state.specs.State.{State, with_rows};
@@ -84,7 +84,8 @@ fn table_fits(rows: u32, table: &[u32]) -> bool
 
 // THE LOOKUP OF AN IDENTIFIER by a caller, in any table with any mask of used rows.
 pub fn find_session(identifier: u32, rows: u32, table: &[u32]) -> Lookup
-    ensures { lookup_of result ≡ looked_up identifier rows table.now }
+    ensures refused { IfErr result.row (λ code. code.0 ≢ success) }
+    ensures said { lookup_of result ≡ looked_up identifier rows table.now }
 {
     if !table_fits(rows, table) {
         return Lookup {

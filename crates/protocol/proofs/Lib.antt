@@ -3,3 +3,4 @@ pub mod BodyLayout
 pub mod NameForms
 pub mod Naming
 pub mod Inside
+pub mod Verdicts

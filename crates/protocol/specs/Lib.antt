@@ -5,3 +5,4 @@ pub mod Decode
 pub mod Frame
 pub mod Cases
 pub mod Inside
+pub mod Verdict

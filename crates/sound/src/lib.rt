@@ -3,12 +3,13 @@
 
 ghost use Rattle.std.specs.Prelude.{◌≡◌, List, ℕ};
 ghost use Rattle.state.specs.State.{state_of};
+ghost use Rattle.state.specs.Memory.{state_in};
 ghost use Rattle.state.specs.Soundness.{lent_right, values_fit, flash_fits, is_sound};
 
 use sound_rows::{all_apart, rows_ok};
 use sound_slots::{all_names_apart, slots_ok};
 use state::{
-    Control, HASH_SIZE, IMAGE_SIZE, NAME_SIZE, ROW_WORDS, ROWS, SIXTEEN_BITS, SLOT_SIZE, SLOTS,
+    Control, HASH_SIZE, IMAGE_SIZE, Memory, NAME_SIZE, ROW_WORDS, ROWS, SIXTEEN_BITS, SLOT_SIZE, SLOTS,
 };
 
 // Lent lengths are exact. Those of the two arrays of `control` need no test: their type gives them.
@@ -66,4 +67,19 @@ pub fn sound(
         & ((rows_ok(control, table) & all_apart(control.rows, table))
             & (slots_ok(control, table, names, committed, staged)
                 & all_names_apart(control.slots, names)))
+}
+
+// What is lent makes a sound state.
+pub fn is_sound(memory: &Memory<'_>) -> bool
+    ensures { result ≡ is_sound (state_in memory.now) }
+{
+    sound(
+        memory.control,
+        memory.table,
+        memory.names,
+        memory.committed,
+        memory.staged,
+        memory.image,
+        memory.hash,
+    )
 }

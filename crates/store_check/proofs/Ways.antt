@@ -15,9 +15,10 @@ use Rattle.protocol.specs.declared.Code.{Code}
 use Rattle.laws.specs.Merge.{All}
 use Rattle.wire.specs.declared.Field.{Field}
 use Rattle.wire.specs.Fields.{store_keys, field_at}
-use Rattle.wire.specs.Verdict.{verdict}
+use Rattle.protocol.specs.Verdict.{verdict}
 use Rattle.wire.proofs.Standing.{Stands, stand-turn}
-use Rattle.wire.proofs.Verdicts.{verdict-good, verdict-bad, good-verdict, bad-verdict, fault-coded}
+use Rattle.protocol.proofs.Verdicts.{verdict-good, verdict-bad, good-verdict, bad-verdict}
+use Rattle.wire.proofs.FaultCodes.{fault-coded}
 use Rattle.wire.specs.Walk.{Walked, walk_with, walk, last}
 use Rattle.wire.proofs.Steps.{step_end, step-fault, step-on, step-inside}
 use Rattle.store_file.specs.Messages.{Scan, blob_field, scan_at, inside, store_in, scans_at, Reading, reading}

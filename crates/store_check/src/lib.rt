@@ -5,7 +5,7 @@ ghost use Rattle.std.specs.Prelude.{◌≡◌, ◌≤◌, length};
 ghost use Rattle.laws.specs.Bytes.{same};
 ghost use Rattle.protocol.specs.Names.{base};
 ghost use Rattle.wire.specs.Fields.{store_keys};
-ghost use Rattle.wire.specs.Verdict.{verdict};
+ghost use Rattle.protocol.specs.Verdict.{verdict};
 ghost use Rattle.wire.specs.Walk.{walk, last};
 ghost use Rattle.store_file.specs.Messages.{scan_at, base_field, store_in, reading};
 ghost use Rattle.store_file.specs.Loaded.{reason};

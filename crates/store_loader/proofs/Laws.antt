@@ -26,8 +26,8 @@ use Rattle.laws.specs.Merge.{All}
 use Rattle.wire.specs.declared.Field.{Field}
 use Rattle.std.specs.Prelude.{Err}
 use Rattle.protocol.specs.declared.Code.{Code}
-use Rattle.wire.specs.Verdict.{verdict}
-use Rattle.wire.proofs.Verdicts.{bad-verdict}
+use Rattle.protocol.specs.Verdict.{verdict}
+use Rattle.protocol.proofs.Verdicts.{bad-verdict}
 use Rattle.wire.proofs.Standing.{Stands, stand-turn}
 use Rattle.store_file.specs.ScanLaws.{Unread, clean-items}
 use Rattle.store_loader.specs.Filling.{Fitting, filling}

@@ -2,6 +2,7 @@
 #![tactic(auto)]
 
 ghost use Rattle.std.specs.Prelude.{◌≡◌};
+ghost use Rattle.protocol.specs.Verdict.{verdict};
 ghost use Rattle.tray.specs.Tray.{tray_form};
 
 use protocol::Code;
@@ -10,10 +11,10 @@ use records::{Record, record_at};
 // The most records of a tray.
 pub const TRAY_MOST: usize = 64;
 
-// What the bytes alone are refused with: TOO_LONG behind the 64th record, WRONG_LENGTH for a cut one up to there; SUCCESS where a tray has its
+// What the bytes alone are refused with: TOO_LONG behind the 64th record, WRONG_LENGTH for a cut one up to there; or nothing, where a tray has its
 // form.
-pub fn form_of(records: &[u8]) -> Code
-    ensures { result.0 ≡ tray_form records.now }
+pub fn form_of(records: &[u8]) -> Result<(), Code>
+    ensures { result ≡ verdict (tray_form records.now) }
 {
     let mut at: usize = 0;
     let mut count: usize = 0;
@@ -31,11 +32,11 @@ pub fn form_of(records: &[u8]) -> Code
         count += 1;
     }
     if records.len() <= at {
-        return Code::SUCCESS;
+        return Ok(());
     }
     if count < TRAY_MOST {
-        Code::WRONG_LENGTH
+        Err(Code::WRONG_LENGTH)
     } else {
-        Code::TOO_LONG
+        Err(Code::TOO_LONG)
     }
 }

@@ -4,5 +4,5 @@ pub mod Steps
 pub mod Forms
 pub mod Examples
 pub mod Passed
-pub mod Verdicts
 pub mod Standing
+pub mod FaultCodes

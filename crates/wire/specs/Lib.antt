@@ -3,5 +3,4 @@ pub mod Fields
 pub mod Walk
 pub mod Written
 pub mod Forms
-pub mod Verdict
 pub mod Numbered

@@ -6,8 +6,9 @@ use Rattle.std.specs.Prelude.{Ok, Err}
 use Rattle.protocol.specs.declared.Code.{Code}
 use Rattle.wire.specs.declared.Field.{Field}
 use Rattle.wire.specs.Fields.{store_keys, field_at}
-use Rattle.wire.specs.Verdict.{verdict}
-use Rattle.wire.proofs.Verdicts.{verdict-good, verdict-bad, fault-coded}
+use Rattle.protocol.specs.Verdict.{verdict}
+use Rattle.protocol.proofs.Verdicts.{verdict-good, verdict-bad}
+use Rattle.wire.proofs.FaultCodes.{fault-coded}
 use Rattle.wire.specs.Walk.{Walked, walk}
 use Rattle.wire.proofs.Steps.{Here, step_end, step-fault, step-on}
 

@@ -4,7 +4,7 @@
 ghost use Rattle.std.specs.Prelude.{◌≡◌, ◌≤◌, length};
 ghost use Rattle.wire.specs.Base128.{number_at};
 ghost use Rattle.wire.specs.Fields.{store_keys, fixed, value_at, field_at};
-ghost use Rattle.wire.specs.Verdict.{verdict};
+ghost use Rattle.protocol.specs.Verdict.{verdict};
 ghost use Rattle.wire.specs.Walk.{walk, last};
 ghost use Rattle.std.specs.Iterator.{YieldsFirst, item_count};
 ghost use Rattle.wire.specs.Numbered.{fields_from};

@@ -13,8 +13,8 @@ use Rattle.lookup.proofs.find_session.Goals.{Else-not-table_fits}
 fits : (c : Else-not-table_fits) → let a = c.args in table_fits a.rows a.table.now ≡ true
 fits c = flag_true c.table_fits.ensures (ap not c.if-not-table_fits.false)
 
-pub returns-then-not-table_fits : goal.returns-then-not-table_fits
-returns-then-not-table_fits c =
+pub returns-then-not-table_fits-clause-said : goal.returns-then-not-table_fits-clause-said
+returns-then-not-table_fits-clause-said c =
     let a = c.args in
     sym (looked-nothing a.identifier a.rows a.table.now (flag-false c.table_fits.ensures (ap not c.if-not-table_fits.true)))
 
@@ -24,12 +24,12 @@ search_rows-search-requires c = let a = c.args in table-lent a.rows a.table.now 
 pub overflow_cast-row : goal.overflow_cast-row
 overflow_cast-row c = let low = row_low (searched-row c.search_rows-search.ensures) c.in-Some.is in omega (arith, low)
 
-pub returns-in-Some : goal.returns-in-Some
-returns-in-Some c =
+pub returns-in-Some-clause-said : goal.returns-in-Some-clause-said
+returns-in-Some-clause-said c =
     let a = c.args in
-    looked-search a.identifier a.rows a.table.now c.search_rows-search.result (c.search_rows-search.ensures fresh) (Some c.in-Some.r) c.in-Some.is (fits (goal.at.returns-in-Some c).Else-not-table_fits)
+    looked-search a.identifier a.rows a.table.now c.search_rows-search.result (c.search_rows-search.ensures fresh) (Some c.in-Some.r) c.in-Some.is (fits (goal.at.returns-in-Some-clause-said c).Else-not-table_fits)
 
-pub returns-in-None : goal.returns-in-None
-returns-in-None c =
+pub returns-in-None-clause-said : goal.returns-in-None-clause-said
+returns-in-None-clause-said c =
     let a = c.args in
-    looked-search a.identifier a.rows a.table.now c.search_rows-search.result (c.search_rows-search.ensures fresh) None c.in-None.is (fits (goal.at.returns-in-None c).Else-not-table_fits)
+    looked-search a.identifier a.rows a.table.now c.search_rows-search.result (c.search_rows-search.ensures fresh) None c.in-None.is (fits (goal.at.returns-in-None-clause-said c).Else-not-table_fits)

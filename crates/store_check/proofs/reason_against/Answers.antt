@@ -9,9 +9,9 @@ use Rattle.store_file.specs.Loaded.{every, different}
 use Rattle.store_file.specs.Messages.{store_in}
 use Rattle.store_file.specs.Scans.{scans_from}
 use Rattle.wire.proofs.Passed.{passed}
-use Rattle.wire.proofs.Verdicts.{good-verdict}
+use Rattle.protocol.proofs.Verdicts.{good-verdict}
 use Rattle.wire.specs.Fields.{store_keys}
-use Rattle.wire.specs.Verdict.{verdict}
+use Rattle.protocol.specs.Verdict.{verdict}
 use Rattle.wire.specs.Walk.{walk, last}
 use Rattle.store_check.proofs.reason_against.Goals as goal
 use Rattle.store_check.proofs.reason_against.Goals.{In_ok-store_fault, Else-not-all_different, Else-not-base_right, Else-not-tests, Else-not-tests-2}

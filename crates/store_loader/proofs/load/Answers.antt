@@ -12,7 +12,7 @@ use Rattle.store_file.specs.Scans.{scans_from}
 use Rattle.store_loader.proofs.Laws.{load-unsound, load-open, load-refused, load_stored, clean-storable}
 use Rattle.store_loader.specs.Filling.{filling}
 use Rattle.wire.proofs.Passed.{passed}
-use Rattle.wire.proofs.Verdicts.{good-verdict}
+use Rattle.protocol.proofs.Verdicts.{good-verdict}
 use Rattle.store_loader.proofs.load.Goals as goal
 use Rattle.store_loader.proofs.load.Goals.{Start, Else-not-sound, In_ok-reason_against, Else-store_open}
 

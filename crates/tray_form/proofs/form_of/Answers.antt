@@ -1,5 +1,6 @@
 -- `form_of`: the walk over the records, and its three ends.
-use Rattle.std.proofs.Common.{◌≡◌, sym, ◌∙◌, [], ◌-◌, arith, drop}
+use Rattle.std.proofs.Common.{◌≡◌, ap, sym, ◌∙◌, [], ◌-◌, arith, drop}
+use Rattle.protocol.specs.Verdict.{verdict}
 use Rattle.records.proofs.Found.{Found, found, found_none}
 use Rattle.records.proofs.Requests.{first-none}
 use Rattle.records.specs.Records.{requests_in}
@@ -39,10 +40,12 @@ over c =
     ]
 
 pub returns-then-records-at : goal.returns-then-records-at
-returns-then-records-at c = has-form _ _ _ c.loop-count.invariant (over (goal.at.returns-then-records-at c).Left-loop-count) c.if-records-at.true
+returns-then-records-at c = ap verdict (has-form _ _ _ c.loop-count.invariant (over (goal.at.returns-then-records-at c).Left-loop-count) c.if-records-at.true)
 
 pub returns-then-count-lt-TRAY_MOST : goal.returns-then-count-lt-TRAY_MOST
-returns-then-count-lt-TRAY_MOST c = is_cut _ _ _ c.loop-count.invariant (over (goal.at.returns-then-count-lt-TRAY_MOST c).Left-loop-count) c.if-records-at.false c.if-count-lt-TRAY_MOST.true
+returns-then-count-lt-TRAY_MOST c =
+    ap verdict (is_cut _ _ _ c.loop-count.invariant (over (goal.at.returns-then-count-lt-TRAY_MOST c).Left-loop-count) c.if-records-at.false c.if-count-lt-TRAY_MOST.true)
 
 pub returns-else-count-lt-TRAY_MOST : goal.returns-else-count-lt-TRAY_MOST
-returns-else-count-lt-TRAY_MOST c = too_many _ _ _ c.loop-count.invariant (over (goal.at.returns-else-count-lt-TRAY_MOST c).Left-loop-count) c.if-records-at.false c.if-count-lt-TRAY_MOST.false
+returns-else-count-lt-TRAY_MOST c =
+    ap verdict (too_many _ _ _ c.loop-count.invariant (over (goal.at.returns-else-count-lt-TRAY_MOST c).Left-loop-count) c.if-records-at.false c.if-count-lt-TRAY_MOST.false)
