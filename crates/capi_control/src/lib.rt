@@ -3,11 +3,11 @@
 #![tactic(auto)]
 
 ghost use Rattle.std.specs.Prelude.{◌≡◌, ◌+◌, ◌≤◌, length};
-ghost use Rattle.std.proofs.lemmas.List.Edits.{sets};
 ghost use Rattle.laws.specs.Ranges.{part};
 ghost use Rattle.protocol.specs.Numbers.{slot_count};
 ghost use Rattle.capi_control.specs.Words.{phase_of, phase_number, control_fits, control_of, words_of, control_size};
 
+use memory_copy::copy_at;
 use state::{Control, Phase, SLOTS};
 
 // The words of a control block.
@@ -54,6 +54,7 @@ fn phase_number(phase: Phase) -> u32
 }
 
 // The words are a control block: their number is right, and the phase is one.
+#[tactic(auto, unfolding(crate::specs::Words::control_fits))]
 pub fn control_fits(words: &[u32]) -> bool
     ensures { result ≡ control_fits words.now }
 {
@@ -63,30 +64,18 @@ pub fn control_fits(words: &[u32]) -> bool
     words[PHASE_AT] <= VERIFIED
 }
 
-// The words src are stored from a place on.
-fn put_words(words: &mut [u32], at: usize, src: &[u32])
-    requires { at + length src.now ≤ length words.old }
-    ensures { words.new ≡ sets words.old at src.now }
-{
-    let mut i: usize = 0;
-    while i < src.len() {
-        words[at + i] = src[i];
-        i += 1;
-    }
-}
-
 // The lengths of all slots, from a place on.
 fn lengths_at(words: &[u32], at: usize) -> [u32; SLOTS]
     requires { at + slot_count ≤ length words.now }
     ensures { result ≡ part at slot_count words.now }
 {
-    let end = at + SLOTS;
     let mut lengths = [0u32; SLOTS];
-    put_words(&mut lengths, 0, &words[at..end]);
+    lengths.copy_from_slice(&words[at..at + SLOTS]);
     lengths
 }
 
 // The control block that the words are.
+#[tactic(auto, unfolding(crate::specs::Words::control_of))]
 pub fn control_of(words: &[u32]) -> Control
     requires { length words.now ≡ control_size }
     ensures { result ≡ control_of words.now }
@@ -124,8 +113,8 @@ pub fn put_control(words: &mut [u32], control: Control)
         control.next,
         control.last_sweep,
     ];
-    put_words(words, 0, &masks);
-    put_words(words, COMMITTED_LENS_AT, &committed_len);
-    put_words(words, STAGED_LENS_AT, &staged_len);
-    put_words(words, PHASE_AT, &rest);
+    copy_at(words, 0, &masks);
+    copy_at(words, COMMITTED_LENS_AT, &committed_len);
+    copy_at(words, STAGED_LENS_AT, &staged_len);
+    copy_at(words, PHASE_AT, &rest);
 }

@@ -23,12 +23,6 @@ pub enum Record {
     End,
 }
 
-fn wide(x: u8) -> usize
-    ensures { result ≡ x }
-{
-    x as usize
-}
-
 // The record at a place.
 pub fn record_at(buffer: &[u8], at: usize) -> Record
     ensures { result ≡ record_at buffer.now at }
@@ -40,7 +34,7 @@ pub fn record_at(buffer: &[u8], at: usize) -> Record
     if left < PREFIX_SIZE {
         return Record::Cut;
     }
-    let len = wide(buffer[at + CLOCK_SIZE]);
+    let len = usize::from(buffer[at + CLOCK_SIZE]);
     if left - PREFIX_SIZE < len {
         return Record::Cut;
     }

@@ -17,6 +17,8 @@ use Rattle.protocol.specs.declared.Request.{Request}
 use Rattle.protocol.specs.declared.Request.TheVariants.{Enumerate, Open, Read, Write, Commit, Close, Delete, Stat, SessionStat, WriteMeta}
 use Rattle.protocol.specs.Numbers.{invalid}
 use Rattle.protocol.specs.Names.{name_form, blob_named}
+use Rattle.protocol.specs.declared.Subcommand.{Subcommand}
+use Rattle.protocol.specs.Subcommands.{command_number}
 use Rattle.protocol.specs.Decode.{refused_with, asked, with_name}
 use Rattle.request_names.proofs.Names.{tail-part}
 use Rattle.request_decode.specs.declared.Widths.{Widths}
@@ -98,41 +100,27 @@ pub good-name : (at : ℕ) (m : List ℕ) (f : Blob → Request) (r : Bool) (b :
 unfolding with_name
 good-name at m f r b e h p = rw (flag_true e h, p)
 
--- the form of the name behind the numbers, and what it names
-module _ (m : List ℕ) where
-  abbrev formed : Fields → Bool
-  formed f = name_form (drop (4 + f.rest) m)
-
-  abbrev names : Fields → Blob
-  names f = blob_named (4 + f.rest) (text (drop (4 + f.rest) m))
-
-module _ (m : List ℕ) (f : Fields) (r : Bool) (p : r ≡ formed m f) where
-  module _ (e : f ≡ fields_in 2 m) where
-    pub open-bad : not r ≡ true → refused_with invalid ≡ asked 2 m
-    unfolding asked widths_of
-    open-bad h = bad-name 8 m (λ (b : Blob). Open (little 2 6 m) b) r (p ∙ ap (formed m) e) h
-
-    pub open-good : (b : Blob) → not r ≡ false → b ≡ names m f → Open f.first b ≡ asked 2 m
-    unfolding asked widths_of
-    open-good b h q =
-        let flags : f.first ≡ little 2 6 m = ap (λ (g : Fields). g.first) e ∙ simp in_rest in
-        rw flags (good-name 8 m (λ (x : Blob). Open (little 2 6 m) x) r b (p ∙ ap (formed m) e) h (q ∙ ap (names m) e))
+module _ (m : List ℕ) (f : Fields) where
+  pub open_is : f ≡ fields_in 2 m → with_name (4 + f.rest) m (λ (b : Blob). Open f.first b) ≡ asked 2 m
+  unfolding asked widths_of
+  open_is e = ap (λ (g : Fields). with_name (4 + g.rest) m (λ (b : Blob). Open g.first b)) e ∙ simp in_rest
 
   -- Delete and Stat have no number: the name follows the CRC
-  module _ (e : f ≡ fields_in 7 m) where
-    pub delete-bad : not r ≡ true → refused_with invalid ≡ asked 7 m
-    unfolding asked widths_of
-    delete-bad h = bad-name 6 m (λ (b : Blob). Delete b) r (p ∙ ap (formed m) e) h
+  pub delete-is : f ≡ fields_in 7 m → with_name (4 + f.rest) m (λ (b : Blob). Delete b) ≡ asked 7 m
+  unfolding asked widths_of
+  delete-is e = ap (λ (g : Fields). with_name (4 + g.rest) m (λ (b : Blob). Delete b)) e
 
-    pub delete-good : (b : Blob) → not r ≡ false → b ≡ names m f → Delete b ≡ asked 7 m
-    unfolding asked widths_of
-    delete-good b h q = good-name 6 m (λ (x : Blob). Delete x) r b (p ∙ ap (formed m) e) h (q ∙ ap (names m) e)
+  pub stat-is : f ≡ fields_in 8 m → with_name (4 + f.rest) m (λ (b : Blob). Stat b) ≡ asked 8 m
+  unfolding asked widths_of
+  stat-is e = ap (λ (g : Fields). with_name (4 + g.rest) m (λ (b : Blob). Stat b)) e
 
-  module _ (e : f ≡ fields_in 8 m) where
-    pub stat-bad : not r ≡ true → refused_with invalid ≡ asked 8 m
-    unfolding asked widths_of
-    stat-bad h = bad-name 6 m (λ (b : Blob). Stat b) r (p ∙ ap (formed m) e) h
+-- ---- what is found in an arm, where the subcommand is known
+module _ (sub : Subcommand) (m : List ℕ) (f : Fields) (found : f ≡ fields_in (command_number sub) m) where
+  pub found-at : (k : Subcommand) → sub ≡ k → f ≡ fields_in (command_number k) m
+  found-at k e = found ∙ ap (λ (s : Subcommand). fields_in (command_number s) m) e
 
-    pub stat-good : (b : Blob) → not r ≡ false → b ≡ names m f → Stat b ≡ asked 8 m
-    unfolding asked widths_of
-    stat-good b h q = good-name 6 m (λ (x : Blob). Stat x) r b (p ∙ ap (formed m) e) h (q ∙ ap (names m) e)
+  -- a number of two bytes, first of the fields
+  pub first-fits : ((i : ℕ) → get_or m i 0 < 256) → (widths_of (command_number sub)).first ≡ 2 → f.first < 65536
+  first-fits bytes w =
+      let e : f.first ≡ little 2 2 (drop 4 m) = ap (λ (g : Fields). g.first) found ∙ ap (λ (n : ℕ). little n 2 (drop 4 m)) w in
+      fits m bytes 2 2 f.first e

@@ -2,7 +2,7 @@
 use mathlib.Core.Path.{◌≡◌, refl, sym, ap, ◌∙◌}
 use mathlib.Core.Bool.{Bool, true, false, cond, true≢false}
 use mathlib.Core.List.{List}
-use Prim.Native.Nat.{ℕ, zero, suc, ◌-◌, ◌≤◌, ◌<◌}
+use Prim.Native.Nat.{ℕ, zero, suc, ◌+◌, ◌-◌, ◌≤◌, ◌<◌}
 use native.Mathlib.Omega.{arith}
 use borrow.Author.Tests.{eq-eqb, ne_eqb, eqb-true, leb-true}
 use lib.Dec.{eqb}
@@ -12,26 +12,7 @@ use Rattle.request_reader.specs.declared.Fields.{Fields}
 use Rattle.request_names.proofs.Names.{tail-part}
 use Rattle.request_reader.proofs.Little.{in_rest}
 use Rattle.protocol.specs.Decode.{body_fits, crc_fits}
-use Rattle.request_decode.specs.Widths.{fields_in}
-
--- no body is right for a subcommand that there is not
-pub no-command : (sub n : ℕ) → (sub ≡ 0 → ⊥) → (sub ≡ 1 → ⊥) → (sub ≡ 2 → ⊥) → (sub ≡ 3 → ⊥) → (sub ≡ 4 → ⊥) → (sub ≡ 5 → ⊥) → (sub ≡ 6 → ⊥)
-    → (sub ≡ 7 → ⊥) → (sub ≡ 8 → ⊥) → (sub ≡ 9 → ⊥) → (sub ≡ 10 → ⊥) → false ≡ body_fits sub n
-unfolding body_fits
-no-command sub n n0 n1 n2 n3 n4 n5 n6 n7 n8 n9 n10 =
-    rw (
-      ne_eqb sub 0 n0,
-      ne_eqb sub 1 n1,
-      ne_eqb sub 2 n2,
-      ne_eqb sub 3 n3,
-      ne_eqb sub 4 n4,
-      ne_eqb sub 5 n5,
-      ne_eqb sub 6 n6,
-      ne_eqb sub 7 n7,
-      ne_eqb sub 8 n8,
-      ne_eqb sub 9 n9,
-      ne_eqb sub 10 n10,
-    )
+use Rattle.request_decode.specs.Widths.{widths_of, fields_in}
 
 -- how long a body is at least
 cond_same : (b : Bool) → cond b false false ≡ false
@@ -48,17 +29,6 @@ some-body sub (suc (suc (suc n))) ne h = omega arith
 pub name_body : (k sub n : ℕ) → sub ≡ suc k → body_fits sub n ≡ true → 3 ≤ n
 name_body k sub n e h = some-body sub n (λ z. omega arith) h
 
--- the last subcommand
-six : (sub : ℕ) → 1 ≤ sub → (sub ≡ 1 → ⊥) → (sub ≡ 2 → ⊥) → (sub ≡ 3 → ⊥) → (sub ≡ 4 → ⊥) → (sub ≡ 5 → ⊥) → 6 ≤ sub
-six sub l n1 n2 n3 n4 n5 = omega arith
-
-pub ten : (sub : ℕ) → 1 ≤ sub → sub ≤ 10 → (sub ≡ 1 → ⊥) → (sub ≡ 2 → ⊥) → (sub ≡ 3 → ⊥) → (sub ≡ 4 → ⊥) → (sub ≡ 5 → ⊥) → (sub ≡ 6 → ⊥)
-    → (sub ≡ 7 → ⊥) → (sub ≡ 8 → ⊥) → (sub ≡ 9 → ⊥) → sub ≡ 10
-ten sub l h n1 n2 n3 n4 n5 n6 n7 n8 n9 = last (six sub l n1 n2 n3 n4 n5) h n6 n7 n8 n9
-  where
-    last : {k : ℕ} → 6 ≤ k → k ≤ 10 → (k ≡ 6 → ⊥) → (k ≡ 7 → ⊥) → (k ≡ 8 → ⊥) → (k ≡ 9 → ⊥) → k ≡ 10
-    last l' h' a b c d = omega arith
-
 pub no_body : (sub n : ℕ) → sub ≡ 0 → body_fits sub n ≡ true → n ≡ 0
 unfolding body_fits
 no_body sub n e h = eqb-true n 0 (rw e at h)
@@ -70,6 +40,24 @@ open-body sub n e h = leb-true 5 n (rw e at h)
 pub commit-body : (sub n : ℕ) → sub ≡ 5 → body_fits sub n ≡ true → 5 ≤ n
 unfolding body_fits
 commit-body sub n e h = leb-true 5 n (rw e at h)
+
+-- where the name starts, and what follows Commit's length byte, lies in the message
+module _ (m : List ℕ) (f : Fields) where
+  pub open-inside : f ≡ fields_in 2 m → body_fits 2 (length m - 4) ≡ true → 4 + f.rest ≤ length m
+  unfolding widths_of
+  open-inside e h = omega (arith, ap (λ (g : Fields). g.rest) e, open-body 2 (length m - 4) refl h)
+
+  pub commit-inside : f ≡ fields_in 5 m → body_fits 5 (length m - 4) ≡ true → 4 + f.rest ≤ length m
+  unfolding widths_of
+  commit-inside e h = omega (arith, ap (λ (g : Fields). g.rest) e, commit-body 5 (length m - 4) refl h)
+
+  pub delete-inside : f ≡ fields_in 7 m → body_fits 7 (length m - 4) ≡ true → 4 + f.rest ≤ length m
+  unfolding widths_of
+  delete-inside e h = omega (arith, ap (λ (g : Fields). g.rest) e, name_body 6 7 (length m - 4) refl h)
+
+  pub stat-inside : f ≡ fields_in 8 m → body_fits 8 (length m - 4) ≡ true → 4 + f.rest ≤ length m
+  unfolding widths_of
+  stat-inside e h = omega (arith, ap (λ (g : Fields). g.rest) e, name_body 7 8 (length m - 4) refl h)
 
 -- the CRC of what is lent behind the header and the CRC, by the message
 pub crc-behind : (m : List ℕ) (found r : ℕ) → r ≡ crc (take (length m - 6) (drop 6 m)) → eqb found r ≡ eqb found (crc (drop 6 m))

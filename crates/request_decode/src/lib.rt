@@ -6,29 +6,30 @@ ghost use Rattle.laws.specs.Bytes.{same};
 ghost use Rattle.crc.specs.Crc.{crc};
 ghost use Rattle.protocol.specs.Numbers.{oem};
 ghost use Rattle.protocol.specs.Names.{name_form};
-ghost use Rattle.protocol.specs.Decode.{body_fits, asked, decoded};
+ghost use Rattle.protocol.specs.Subcommands.{command_number};
+ghost use Rattle.protocol.specs.Decode.{body_fits, with_name, asked, decoded};
 ghost use Rattle.request_decode.specs.Widths.{widths, widths_of, fields_in};
 
-use protocol::{Code, FIELDS_AT, HEADER_SIZE, MESSAGE_SIZE, OEM_SIZE, Request, Subcommand};
+use protocol::{Blob, Code, FIELDS_AT, HEADER_SIZE, MESSAGE_SIZE, OEM_SIZE, Request, Subcommand};
 use request_reader::Fields;
 
 // The body's length is right for its subcommand.
-fn body_fits(sub: u8, n: usize) -> bool
-    ensures { result ≡ body_fits sub n }
+#[tactic(auto, unfolding(protocol::specs::Decode::body_fits))]
+fn body_fits(sub: Subcommand, n: usize) -> bool
+    ensures { result ≡ body_fits (command_number sub) n }
 {
     match sub {
-        Subcommand::COUNT => n == 0,
-        Subcommand::ENUMERATE => n == 6,
-        Subcommand::OPEN => 5 <= n,
-        Subcommand::READ => n == 12,
-        Subcommand::WRITE => 8 <= n,
-        Subcommand::COMMIT => 5 <= n,
-        Subcommand::CLOSE => n == 4,
-        Subcommand::DELETE => 3 <= n,
-        Subcommand::STAT => 3 <= n,
-        Subcommand::SESSION_STAT => n == 4,
-        Subcommand::WRITE_META => 8 <= n,
-        _ => false,
+        Subcommand::Count => n == 0,
+        Subcommand::Enumerate => n == 6,
+        Subcommand::Open => 5 <= n,
+        Subcommand::Read => n == 12,
+        Subcommand::Write => 8 <= n,
+        Subcommand::Commit => 5 <= n,
+        Subcommand::Close => n == 4,
+        Subcommand::Delete => 3 <= n,
+        Subcommand::Stat => 3 <= n,
+        Subcommand::SessionStat => n == 4,
+        Subcommand::WriteMeta => 8 <= n,
     }
 }
 
@@ -51,24 +52,29 @@ fn bytes_wide(first: usize, second: usize, third: usize) -> Widths
 }
 
 // The numbers of each subcommand; behind them stands a name, or bytes, or nothing.
-fn widths_of(sub: u8) -> Widths
-    ensures { result ≡ widths_of sub }
+#[tactic(auto, unfolding(crate::specs::Widths::widths_of))]
+fn widths_of(sub: Subcommand) -> Widths
+    ensures { result ≡ widths_of (command_number sub) }
 {
     match sub {
-        Subcommand::ENUMERATE => bytes_wide(4, 0, 0),
-        Subcommand::READ => bytes_wide(2, 4, 4),
-        Subcommand::WRITE => bytes_wide(2, 4, 0),
-        Subcommand::COMMIT => bytes_wide(2, 1, 0),
-        Subcommand::DELETE => bytes_wide(0, 0, 0),
-        Subcommand::STAT => bytes_wide(0, 0, 0),
-        _ => bytes_wide(2, 0, 0),
+        Subcommand::Count => bytes_wide(2, 0, 0),
+        Subcommand::Enumerate => bytes_wide(4, 0, 0),
+        Subcommand::Open => bytes_wide(2, 0, 0),
+        Subcommand::Read => bytes_wide(2, 4, 4),
+        Subcommand::Write => bytes_wide(2, 4, 0),
+        Subcommand::Commit => bytes_wide(2, 1, 0),
+        Subcommand::Close => bytes_wide(2, 0, 0),
+        Subcommand::Delete => bytes_wide(0, 0, 0),
+        Subcommand::Stat => bytes_wide(0, 0, 0),
+        Subcommand::SessionStat => bytes_wide(2, 0, 0),
+        Subcommand::WriteMeta => bytes_wide(2, 0, 0),
     }
 }
 
 // The CRC and the numbers of a message, read once, from front to back.
-fn fields_of(sub: u8, message: &[u8]) -> Fields
+fn fields_of(sub: Subcommand, message: &[u8]) -> Fields
     requires { 4 ≤ length message.now }
-    ensures { result ≡ fields_in sub message.now }
+    ensures { result ≡ fields_in (command_number sub) message.now }
 {
     let w = widths_of(sub);
     request_reader::take_fields(&message[HEADER_SIZE..], w.first, w.second, w.third)
@@ -79,7 +85,7 @@ fn crc_fits(found: u32, message: &[u8]) -> bool
     requires { 6 ≤ length message.now }
     ensures { result ≡ eqb found (crc (drop 6 message.now)) }
 {
-    found == crc::crc16(&message[FIELDS_AT..]) as u32
+    found == u32::from(crc::crc16(&message[FIELDS_AT..]))
 }
 
 // The message starts with the OEM number.
@@ -99,61 +105,56 @@ fn ends_in_name(message: &[u8], at: usize) -> bool
     request_names::name_form(&message[at..])
 }
 
-// What each subcommand asks that has fields: its numbers, and the name or the bytes that start at the place behind them.
-fn request_of(sub: u8, message: &[u8], f: Fields) -> Request
-    requires { ((1 ≤ sub) × (sub ≤ 10)) × ((body_fits sub (length message.now - 4) ≡ true) × (f ≡ fields_in sub message.now)) }
-    ensures { result ≡ asked sub message.now }
+// What is asked with the name that takes the rest of a message, or the refusal of a wrong form.
+fn with_name<F: FnOnce(Blob) -> Request>(message: &[u8], at: usize, ask: F) -> Request
+    requires within { at ≤ length message.now }
+    requires callable { (b : Blob) → F.pre ask b }
+    ensures { (f : Blob → Request) → ((b : Blob) (r : Request) → F.post ask b r → r ≡ f b) → result ≡ with_name at message.now f }
+{
+    if ends_in_name(message, at) {
+        ask(request_names::blob_at(message, at))
+    } else {
+        Request::Refused(Code::INVALID)
+    }
+}
+
+// What each subcommand asks: its numbers, and the name or the bytes that start at the place behind them.
+fn request_of(sub: Subcommand, message: &[u8], f: Fields) -> Request
+    requires { (body_fits (command_number sub) (length message.now - 4) ≡ true) × (f ≡ fields_in (command_number sub) message.now) }
+    ensures { result ≡ asked (command_number sub) message.now }
 {
     let at = HEADER_SIZE + f.rest;
     match sub {
-        Subcommand::ENUMERATE => Request::Enumerate { index: f.first },
-        Subcommand::OPEN => {
-            if !ends_in_name(message, at) {
-                return Request::Refused(Code::INVALID);
-            }
-            Request::Open {
-                flags: f.first as u16,
-                blob: request_names::blob_at(message, at),
-            }
+        Subcommand::Count => Request::Count,
+        Subcommand::Enumerate => Request::Enumerate { index: f.first },
+        Subcommand::Open => {
+            let flags = f.first as u16;
+            with_name(message, at, |blob| Request::Open { flags, blob })
         }
-        Subcommand::READ => Request::Read {
+        Subcommand::Read => Request::Read {
             session: f.first as u16,
             offset: f.second,
             count: f.third,
         },
-        Subcommand::WRITE => Request::Write {
+        Subcommand::Write => Request::Write {
             session: f.first as u16,
             offset: f.second,
             start: at,
         },
-        Subcommand::COMMIT => Request::Commit {
+        Subcommand::Commit => Request::Commit {
             session: f.first as u16,
             len: f.second as u8,
             rest: message.len() - at,
         },
-        Subcommand::CLOSE => Request::Close {
+        Subcommand::Close => Request::Close {
             session: f.first as u16,
         },
-        Subcommand::DELETE => {
-            if !ends_in_name(message, at) {
-                return Request::Refused(Code::INVALID);
-            }
-            Request::Delete {
-                blob: request_names::blob_at(message, at),
-            }
-        }
-        Subcommand::STAT => {
-            if !ends_in_name(message, at) {
-                return Request::Refused(Code::INVALID);
-            }
-            Request::Stat {
-                blob: request_names::blob_at(message, at),
-            }
-        }
-        Subcommand::SESSION_STAT => Request::SessionStat {
+        Subcommand::Delete => with_name(message, at, |blob| Request::Delete { blob }),
+        Subcommand::Stat => with_name(message, at, |blob| Request::Stat { blob }),
+        Subcommand::SessionStat => Request::SessionStat {
             session: f.first as u16,
         },
-        _ => Request::WriteMeta {
+        Subcommand::WriteMeta => Request::WriteMeta {
             session: f.first as u16,
         },
     }
@@ -170,17 +171,17 @@ pub fn decode(message: &[u8]) -> Request
     if MESSAGE_SIZE < n {
         return Request::Refused(Code::WRONG_LENGTH);
     }
-    let sub = message[3];
     if !is_oem(message) {
         return Request::Refused(Code::INVALID);
     }
-    if Subcommand::WRITE_META < sub {
-        return Request::Refused(Code::UNKNOWN_COMMAND);
-    }
+    let sub = match Subcommand::try_from(message[3]) {
+        Ok(sub) => sub,
+        Err(code) => return Request::Refused(code),
+    };
     if !body_fits(sub, n - HEADER_SIZE) {
         return Request::Refused(Code::WRONG_LENGTH);
     }
-    if sub == Subcommand::COUNT {
+    if sub == Subcommand::Count {
         return Request::Count;
     }
     let f = fields_of(sub, message);

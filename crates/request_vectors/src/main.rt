@@ -158,29 +158,29 @@ fn say_bytes(rt: &impl Print, bytes: &[u8]) -> io::Result<()> {
     println!(rt)
 }
 
-fn respond(rt: &impl Print, sub: u8, fields: &[u8], answer: &mut [u8; 64]) -> io::Result<()>
+fn respond(rt: &impl Print, sub: Subcommand, fields: &[u8], answer: &mut [u8; 64]) -> io::Result<()>
     requires { length fields.now ≤ 58 }
 {
-    response_frame::respond_with(sub, fields, answer);
+    response_frame::respond_with(sub.number(), fields, answer);
     say_bytes(rt, answer)
 }
 
 fn closed(rt: &impl Print, answer: &mut [u8; 64]) -> io::Result<()> {
-    response_frame::respond_empty(Subcommand::CLOSE, answer);
+    response_frame::respond_empty(Subcommand::Close.number(), answer);
     say_bytes(rt, answer)
 }
 
 fn responses(rt: &impl Print) -> io::Result<()> {
     let mut answer = [0xEEu8; 64];
     closed(rt, &mut answer)?;
-    respond(rt, Subcommand::READ, b"", &mut answer)?;
+    respond(rt, Subcommand::Read, b"", &mut answer)?;
     let four = response_frame::bytes_of_u32(4);
-    respond(rt, Subcommand::COUNT, &four, &mut answer)?;
+    respond(rt, Subcommand::Count, &four, &mut answer)?;
     let stat = response_frame::stat_bytes(0x0103, 0x00010203);
-    respond(rt, Subcommand::STAT, &stat, &mut answer)?;
+    respond(rt, Subcommand::Stat, &stat, &mut answer)?;
     respond(
         rt,
-        Subcommand::READ,
+        Subcommand::Read,
         b"0123456789012345678901234567890123456789012345678901234567",
         &mut answer,
     )

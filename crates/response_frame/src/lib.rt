@@ -21,22 +21,19 @@ fn put_at(dst: &mut [u8], at: usize, src: &[u8]) -> usize
 }
 
 // The bytes of a number of 16 bits, lowest first.
+#[tactic(auto, unfolding(laws::specs::Bytes::bytes_of))]
 pub fn bytes_of_u16(x: u16) -> [u8; 2]
     ensures { result ≡ bytes_of 2 x }
 {
-    [(x % 256) as u8, (x / 256 % 256) as u8]
+    x.to_le_bytes()
 }
 
 // The bytes of a number of 32 bits, lowest first.
+#[tactic(auto, unfolding(laws::specs::Bytes::bytes_of))]
 pub fn bytes_of_u32(x: u32) -> [u8; 4]
     ensures { result ≡ bytes_of 4 x }
 {
-    [
-        (x % 256) as u8,
-        (x / 256 % 256) as u8,
-        (x / 256 / 256 % 256) as u8,
-        (x / 256 / 256 / 256 % 256) as u8,
-    ]
+    x.to_le_bytes()
 }
 
 // The fields of a Stat: state, size, and no metadata.

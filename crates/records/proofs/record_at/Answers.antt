@@ -17,5 +17,5 @@ returns-then-left-len c =
 pub returns : goal.returns
 returns c =
     let a = c.args in
-    record-whole a.buffer.now a.at c.if-buffer-at.false c.u32_at-clock.result c.wide-len.result
-    c.u32_at-clock.ensures c.wide-len.ensures (omega arith)
+    record-whole a.buffer.now a.at c.if-buffer-at.false c.u32_at-clock.result c.from-len.result
+    c.u32_at-clock.ensures c.from-len.ensures (omega arith)
