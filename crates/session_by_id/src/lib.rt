@@ -1,8 +1,8 @@
 // The commands by identifier: the row is found and read, and the store's code or the flash's does the work. A refusal changes nothing.
 #![tactic(auto)]
 
-ghost use Rattle.std.specs.Prelude.{◌≡◌, List, ℕ, ◌≤◌, ◌<◌};
-ghost use Rattle.protocol.specs.Numbers.{slot_count, read_most};
+ghost use Rattle.std.specs.Prelude.{◌≡◌, ◌≢◌, IfErr, List, ℕ, ◌≤◌, ◌<◌};
+ghost use Rattle.protocol.specs.Numbers.{success, slot_count, read_most};
 ghost use Rattle.state.specs.State.{state_of};
 ghost use Rattle.rules.specs.Command.{read, write, commit, stat, close, write_meta, end_job};
 ghost use Rattle.rules.specs.Session.{on_session};
@@ -156,7 +156,8 @@ pub fn write_meta(control: Control, table: &[u32], id: u32) -> Result<Said, Code
 // A job's outcome, of the flash session.
 pub fn end_job(control: Control, table: &mut [u32], good: bool) -> Result<Said, Code>
     requires { TableLent table.old }
-    ensures { (clock : ℕ) (names committed staged image hash answer : List ℕ) → after_said result control table.new names committed staged image hash answer ≡ on_session OnFlash clock (end_job good) (state_of control table.old names committed staged image hash) }
+    ensures refused { IfErr result (λ code. code.0 ≢ success) }
+    ensures ended { (clock : ℕ) (names committed staged image hash answer : List ℕ) → after_said result control table.new names committed staged image hash answer ≡ on_session OnFlash clock (end_job good) (state_of control table.old names committed staged image hash) }
 {
     let Some(r) = find_row(table, control.rows, Wanted::OnFlash) else {
         return Err(Code::NOT_SUPPORTED);

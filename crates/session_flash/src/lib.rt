@@ -1,8 +1,8 @@
 // The commands on the flash session, whose row r the code has read as e. A refusal changes nothing.
 #![tactic(auto)]
 
-ghost use Rattle.std.specs.Prelude.{◌≡◌, List, ℕ, ◌<◌, length, replicate};
-ghost use Rattle.protocol.specs.Numbers.{image_size, hash_size, sixteen_bits};
+ghost use Rattle.std.specs.Prelude.{◌≡◌, ◌≢◌, IfErr, List, ℕ, ◌<◌, length, replicate};
+ghost use Rattle.protocol.specs.Numbers.{success, image_size, hash_size, sixteen_bits};
 ghost use Rattle.state.specs.declared.row.Place.TheVariants.{AtFlash};
 ghost use Rattle.state.specs.Job.{status_number};
 ghost use Rattle.state.specs.State.{place_of, state_of};
@@ -236,7 +236,8 @@ pub fn end_job(
     good: bool,
 ) -> Result<Said, Code>
     requires { RowIs table.old r e × (place_of e.blob ≡ AtFlash) }
-    ensures { (clock : ℕ) (names committed staged image hash answer : List ℕ) → after_said result control table.new names committed staged image hash answer ≡ on_row r clock (end_job good) (state_of control table.old names committed staged image hash) }
+    ensures refused { IfErr result (λ code. code.0 ≢ success) }
+    ensures ended { (clock : ℕ) (names committed staged image hash answer : List ℕ) → after_said result control table.new names committed staged image hash answer ≡ on_row r clock (end_job good) (state_of control table.old names committed staged image hash) }
 {
     if e.status().is_running() {
         write_row(table, r, e.with_status(verdict(good)));

@@ -1,6 +1,5 @@
 -- `stat_flash`: the name is not listed, has no session, or has one.
 use Rattle.std.proofs.Common.{ap, sym, ◌∙◌, ℕ}
-use Rattle.std.proofs.lemmas.Bool.{not-true, not-false}
 use Rattle.std.specs.Prelude.{not}
 use Rattle.lookup.specs.Search.{row_in, row_low}
 use Rattle.name_stat.specs.Laws.{flash-hidden, flash-closed, flash-open}
@@ -12,7 +11,7 @@ use Rattle.name_stat.proofs.stat_flash.Goals as goal
 
 pub returns-then-not-flash_listed : goal.returns-then-not-flash_listed
 returns-then-not-flash_listed c = λ m n d g i h _. let a = c.args in flash-hidden a.kind m (state_of a.control a.table.now n d g i h)
-    (sym c.flash_listed.ensures ∙ not-true _ (ap not c.if-not-flash_listed.true))
+    (sym c.flash_listed.ensures ∙ c.if-not-flash_listed.true)
 
 pub returns-in_default : goal.returns-in_default
 returns-in_default c =
@@ -20,7 +19,7 @@ returns-in_default c =
     let a = c.args in
     let s = state_of a.control a.table.now n d g i h in
     ap (λ (x : ℕ). reply (stat_fields 0 x)) (c.flash_length.ensures a.table.now n d g i h)
-    ∙ flash-closed a.kind m s (sym c.flash_listed.ensures ∙ not-false _ (ap not c.if-not-flash_listed.false))
+    ∙ flash-closed a.kind m s (sym c.flash_listed.ensures ∙ c.if-not-flash_listed.false)
     (ap (λ (b : ℕ). row_found (OnBlob b) s) (sym c.number.ensures) ∙ (row_in s c.find_row.ensures c.in_default.is))
 
 pub stat_row-requires : goal.stat_row-requires
@@ -32,5 +31,5 @@ returns c =
     let a = c.args in
     let s = state_of a.control a.table.now n d g i h in
     c.stat_row.ensures n d g i h x
-    ∙ flash-open a.kind m s (sym c.flash_listed.ensures ∙ not-false _ (ap not c.if-not-flash_listed.false)) c.in-Some.r
+    ∙ flash-open a.kind m s (sym c.flash_listed.ensures ∙ c.if-not-flash_listed.false) c.in-Some.r
     (ap (λ (b : ℕ). row_found (OnBlob b) s) (sym c.number.ensures) ∙ (row_in s c.find_row.ensures c.in-Some.is))

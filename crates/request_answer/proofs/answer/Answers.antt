@@ -1,7 +1,5 @@
 -- `answer` meets its contract: refused where the caller's test failed, else served. Assumes nothing.
 use Rattle.std.proofs.Common.{ap, ◌≡◌, sym, ◌∙◌, true, rules}
-use Rattle.std.proofs.lemmas.Bool.{not-true, not-false}
-use Rattle.std.specs.Prelude.{not}
 use Rattle.request_answer.proofs.Served.{not-able, is-sound, has-size, answers}
 use Rattle.request_answer.specs.Call.{answerable}
 use Rattle.state.specs.Memory.{state_in}
@@ -10,12 +8,12 @@ use Rattle.request_answer.proofs.answer.Goals.{Else-not-able}
 
 -- behind the test the state is sound and the answer buffer has its size
 tested : (c : Else-not-able) → answerable (state_in c.args.memory.now) c.args.answer.now ≡ true
-tested c = sym c.requires ∙ not-false _ (ap not c.if-not-able.false)
+tested c = sym c.requires ∙ c.if-not-able.false
 
 pub returns-then-not-able-clause-served : goal.returns-then-not-able-clause-served
 returns-then-not-able-clause-served c =
     let a = c.args in
-    not-able a.clock a.request.now (state_in a.memory.now) a.answer.now (sym c.requires ∙ not-true _ (ap not c.if-not-able.true))
+    not-able a.clock a.request.now (state_in a.memory.now) a.answer.now (sym c.requires ∙ c.if-not-able.true)
 
 pub serve-said-requires : goal.serve-said-requires
 serve-said-requires c =

@@ -14,12 +14,12 @@ pub end_job-requires : goal.end_job-requires
 end_job-requires c =
     (row_is c.find_row.ensures c.in-Some.is c.requires c.read_row-e.ensures, found-flash c.find_row.ensures c.in-Some.is c.read_row-e.ensures)
 
-pub returns : goal.returns
-returns c =
+pub returns-clause-ended : goal.returns-clause-ended
+returns-clause-ended c =
     let a = c.args in
-    λ (t : ℕ) (n m g im h x : List ℕ). of_row (state_of a.control a.table.now n m g im h) t (end_job a.good) c.find_row.ensures c.in-Some.is (c.end_job.ensures t n m g im h x)
+    λ (t : ℕ) (n m g im h x : List ℕ). of_row (state_of a.control a.table.now n m g im h) t (end_job a.good) c.find_row.ensures c.in-Some.is (c.end_job.ensures.ended t n m g im h x)
 
-pub returns-in_default : goal.returns-in_default
-returns-in_default c =
+pub returns-in_default-clause-ended : goal.returns-in_default-clause-ended
+returns-in_default-clause-ended c =
     let a = c.args in
     λ (t : ℕ) (n m g im h x : List ℕ). of_none (state_of a.control a.table.now n m g im h) t (end_job a.good) c.find_row.ensures c.in_default.is

@@ -1,6 +1,5 @@
 -- `commit`: refused for its length, to image and hash; verify, update, cleanup.
 use Rattle.std.proofs.Common.{◌≡◌, ap, sym, ◌∙◌, cond, List, ℕ, Bool, true, false, Ok}
-use Rattle.std.proofs.lemmas.Bool.{not-true, not-false}
 use Rattle.std.specs.Prelude.{not}
 use Rattle.laws.specs.Ranges.{block}
 use Rattle.protocol.specs.Frame.{done}
@@ -26,14 +25,14 @@ returns-then-not-commit_fits c =
     let a = c.args in
     λ (n m g x : List ℕ).
     (commit-cc (state_of a.control.now a.table.now n m g a.image.now a.hash.now) a.r a.e c.requires.0.words_of_row c.requires.1.0
-    a.clock a.len a.rest (sym c.commit_fits.ensures ∙ not-true _ (ap not c.if-not-commit_fits.true)))
+    a.clock a.len a.rest (sym c.commit_fits.ensures ∙ c.if-not-commit_fits.true))
 
 pub returns-in-Image : goal.returns-in-Image
 returns-in-Image c =
     let a = c.args in
     λ (n m g x : List ℕ).
     commit-d5 (state_of a.control.now a.table.now n m g a.image.now a.hash.now) a.r a.e c.requires.0.words_of_row
-    c.requires.1.0 a.clock a.len a.rest (sym c.commit_fits.ensures ∙ not-false _ (ap not c.if-not-commit_fits.false))
+    c.requires.1.0 a.clock a.len a.rest (sym c.commit_fits.ensures ∙ c.if-not-commit_fits.false)
     (ap holds_bytes (sym c.kind_of.ensures) ∙ bytes-held c.in-Image.is)
 
 -- verify, where its job starts or not
@@ -44,7 +43,7 @@ verified c n m g x b p =
     let a = c.args in
     let s : State = state_of a.control.now a.table.now n m g a.image.now a.hash.now in
     verify-is s a.r a.e c.requires.0.words_of_row c.requires.1.0 a.clock a.len a.rest c.write_row.new.table
-    (with_phase (cond b Uploading a.control.now.phase) s.flash_group) (sym c.commit_fits.ensures ∙ not-false _ (ap not c.if-not-commit_fits.false))
+    (with_phase (cond b Uploading a.control.now.phase) s.flash_group) (sym c.commit_fits.ensures ∙ c.if-not-commit_fits.false)
     (sym c.kind_of.ensures ∙ c.in-Verify.is)
     (c.write_row.ensures ∙ ap (λ (y : Entry). (block row_words a.r).put (words_of y) a.table.now)
     (c.lifted.ensures ∙ ap (λ (y : Entry). lifted y a.clock) c.started.ensures))
@@ -61,7 +60,7 @@ returns-in-Update c =
     let a = c.args in
     λ (n m g x : List ℕ).
     (update-is (state_of a.control.now a.table.now n m g a.image.now a.hash.now) a.r a.e c.requires.0.words_of_row c.requires.1.0
-    a.clock a.len a.rest c.write_row-in-Update.new.table (sym c.commit_fits.ensures ∙ not-false _ (ap not c.if-not-commit_fits.false))
+    a.clock a.len a.rest c.write_row-in-Update.new.table (sym c.commit_fits.ensures ∙ c.if-not-commit_fits.false)
     (sym c.kind_of.ensures ∙ c.in-Update.is)
     (c.write_row-in-Update.ensures ∙ ap (λ (y : Entry). (block row_words a.r).put (words_of y) a.table.now)
     (c.lifted-in-Update.ensures ∙ ap (λ (y : Entry). lifted y a.clock) c.started-in-Update.ensures)))
@@ -78,7 +77,7 @@ returns-in-Cleanup c =
       hash = c.clear_flash.new.hash;
       image_len = 0;
       hash_len = 0;
-    }) (sym c.commit_fits.ensures ∙ not-false _ (ap not c.if-not-commit_fits.false))
+    }) (sym c.commit_fits.ensures ∙ c.if-not-commit_fits.false)
     (sym c.kind_of.ensures ∙ c.in-Cleanup.is)
     (c.write_row-in-Cleanup.ensures ∙ ap (λ (y : Entry). (block row_words a.r).put (words_of y) a.table.now)
     (c.lifted-in-Cleanup.ensures ∙ ap (λ (y : Entry). lifted y a.clock) c.with_status.ensures))

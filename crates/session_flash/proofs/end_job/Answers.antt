@@ -10,16 +10,16 @@ use Rattle.state.specs.Words.{status_in}
 use Rattle.state.specs.declared.row.Entry.{Entry}
 use Rattle.session_flash.proofs.end_job.Goals as goal
 
-pub returns-then-is_running : goal.returns-then-is_running
-returns-then-is_running c =
+pub returns-then-is_running-clause-ended : goal.returns-then-is_running-clause-ended
+returns-then-is_running-clause-ended c =
     let a = c.args in
     λ (t : ℕ) (n m g im h x : List ℕ). outcome-is (state_of a.control a.table.now n m g im h) a.r a.e c.requires.0.words_of_row c.requires.1 t a.good
     c.write_row.new.table (sym c.status.ensures ∙ eqb-true _ _ (sym c.is_running.ensures ∙ c.if-is_running.true))
     (c.write_row.ensures ∙ ap (λ (y : Entry). (block row_words a.r).put (words_of y) a.table.now)
     (c.with_status.ensures ∙ ap (status_set a.e) c.verdict.ensures))
 
-pub returns : goal.returns
-returns c =
+pub returns-clause-ended : goal.returns-clause-ended
+returns-clause-ended c =
     let a = c.args in
     λ (t : ℕ) (n m g im h x : List ℕ). outcome-d5 (state_of a.control a.table.now n m g im h) a.r a.e c.requires.0.words_of_row c.requires.1 t a.good
     (λ (z : status_in a.e.word ≡ 1). eqb-false _ _ (sym c.is_running.ensures ∙ c.if-is_running.false) (c.status.ensures ∙ z))

@@ -1,6 +1,5 @@
 -- `close`: of a session without WRITE, of a slot never committed, of a committed slot.
 use Rattle.std.proofs.Common.{ap, sym, ◌∙◌, List, ℕ}
-use Rattle.std.proofs.lemmas.Bool.{not-true, not-false}
 use Rattle.std.specs.Prelude.{not}
 use Rattle.laws.specs.All.{flag_true, flag-false}
 use Rattle.protocol.specs.Frame.{done}
@@ -14,7 +13,7 @@ returns-then-not-writes c =
     λ (t : ℕ) (im h x : List ℕ).
     (close-read (state_of a.control.now a.table.now a.names.now a.committed.now a.staged.now im h) a.r a.e c.requires.0.words_of_row
     c.requires.1.0 t c.clear_row.new.table c.clear_bit-control.result c.clear_row.ensures c.clear_bit-control.ensures
-    (sym c.writes.ensures ∙ not-true _ (ap not c.if-not-writes.true)))
+    (sym c.writes.ensures ∙ c.if-not-writes.true))
 
 pub returns-then-not-has : goal.returns-then-not-has
 returns-then-not-has c =
@@ -22,7 +21,7 @@ returns-then-not-has c =
     λ (t : ℕ) (im h x : List ℕ).
     (ap (λ (y : State). (done, y)) (c.free_slot.ensures c.clear_row.new.table im h)
     ∙ close-fresh (state_of a.control.now a.table.now a.names.now a.committed.now a.staged.now im h) a.r a.e c.requires.0.words_of_row c.requires.1.0 t c.clear_row.new.table
-    c.clear_bit-control.result c.clear_row.ensures c.clear_bit-control.ensures (sym c.writes.ensures ∙ not-false _ (ap not c.if-not-writes.false))
+    c.clear_bit-control.result c.clear_row.ensures c.clear_bit-control.ensures (sym c.writes.ensures ∙ c.if-not-writes.false)
     (flag-false c.has.ensures (ap not c.if-not-has.true)))
 
 pub returns : goal.returns
@@ -31,4 +30,4 @@ returns c =
     λ (t : ℕ) (im h x : List ℕ).
     (close-kept (state_of a.control.now a.table.now a.names.now a.committed.now a.staged.now im h) a.r a.e c.requires.0.words_of_row
     c.requires.1.0 t c.clear_row.new.table c.clear_bit-control.result c.clear_row.ensures c.clear_bit-control.ensures
-    c.clear_region.new.dst (sym c.writes.ensures ∙ not-false _ (ap not c.if-not-writes.false)) (flag_true c.has.ensures (ap not c.if-not-has.false)) c.clear_region.ensures)
+    c.clear_region.new.dst (sym c.writes.ensures ∙ c.if-not-writes.false) (flag_true c.has.ensures (ap not c.if-not-has.false)) c.clear_region.ensures)

@@ -1,8 +1,6 @@
 -- `answer_tray`: refused by the state or by the form of the records, or its messages are answered.
 use Rattle.std.proofs.Common.{refl, ap, ◌≡◌, sym, ◌∙◌, Bool, true, false, ◌&&◌, eqb, length, eqb-true}
-use Rattle.std.proofs.lemmas.Bool.{not-true, not-false}
 use Rattle.std.proofs.lemmas.Result.{err_from_is_err_and}
-use Rattle.std.specs.Prelude.{not}
 use Rattle.laws.specs.All.{and-true}
 use Rattle.protocol.proofs.Verdicts.{good-verdict, bad-verdict}
 use Rattle.state.specs.Memory.{state_in}
@@ -13,12 +11,12 @@ use Rattle.tray_answer.proofs.answer_tray.Goals as goal
 use Rattle.tray_answer.proofs.answer_tray.Goals.{Else-not-able}
 
 able : (c : Else-not-able) → is_sound (state_in c.args.memory.now) && eqb (length c.args.results.now) tray_most ≡ true
-able c = ap (λ (z : Bool). z && eqb (length c.args.results.now) tray_most) (sym c.is_sound.ensures) ∙ not-false _ (ap not c.if-not-able.false)
+able c = ap (λ (z : Bool). z && eqb (length c.args.results.now) tray_most) (sym c.is_sound.ensures) ∙ c.if-not-able.false
 
 pub returns-then-not-able-clause-answered : goal.returns-then-not-able-clause-answered
 returns-then-not-able-clause-answered c =
     not-able c.args.records.now (state_in c.args.memory.now) c.args.responses.now c.args.results.now
-    (ap (λ (z : Bool). z && eqb (length c.args.results.now) tray_most) (sym c.is_sound.ensures) ∙ not-true _ (ap not c.if-not-able.true))
+    (ap (λ (z : Bool). z && eqb (length c.args.results.now) tray_most) (sym c.is_sound.ensures) ∙ c.if-not-able.true)
 
 pub answer_all-requires : goal.answer_all-requires
 answer_all-requires c =
