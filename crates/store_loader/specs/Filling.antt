@@ -1,6 +1,7 @@
 -- What the loading code leaves, in the words of the definitions.
-use Rattle.std.specs.Prelude.{Result, Ok, Err, ◌≡◌, true, List, ℕ, ◌≤◌, length}
-use Rattle.protocol.specs.Numbers.{success, slot_size}
+use Rattle.std.specs.Prelude.{Result, ◌≡◌, true, List, ℕ, ◌≤◌, length}
+use Rattle.protocol.specs.Numbers.{slot_size}
+use Rattle.protocol.specs.Verdict.{code_of}
 use Rattle.protocol.specs.declared.Code.{Code}
 use Rattle.protocol.specs.Names.{store_name}
 use Rattle.state.specs.declared.Control.{Control}
@@ -18,11 +19,6 @@ pub record Fitting (f : List ℕ) (blob : Field) : Type 0 where
 -- a state whose slots from k on become these blobs
 abbrev pub filling : ℕ → List Scan → State → State
 filling k xs s = in_store.put (filled_from k xs s.store) s
-
--- the code that a result says: success, or that of the refusal
-abbrev pub code_of : Result Unit Code → ℕ
-code_of (Ok u) = success
-code_of (Err c) = c.0
 
 -- the code and the state that the reader leaves: table, names, committed, staged, image, hash
 abbrev pub loaded_of : Result Unit Code → Control → (table names committed staged image hash : List ℕ) → Loaded
