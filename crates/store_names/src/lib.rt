@@ -10,7 +10,7 @@ ghost use Rattle.store_file.specs.Messages.{scan_at};
 ghost use Rattle.store_file.specs.Scans.{scans_from};
 ghost use Rattle.store_names.specs.Names.{count_named, Judged, ClassTested};
 
-use name_filter::{FILTER_WORDS, hash_name, mark, seen};
+use name_filter::{Filter, hash_name};
 use store_file::{BLOB_NAME, STORE_BLOB};
 use wire::Field;
 use wire_reader::{Fields, last_field};
@@ -37,17 +37,17 @@ fn stands_once(file: &[u8], name: &[u8]) -> bool
 }
 
 // One blob: where its name is of the class and the filter does not know it for new, it stands once in the file. The filter then knows the name.
-fn blob_apart(file: &[u8], blob: Field, class: u64, classes: u64, filter: &mut [u32]) -> bool
-    requires { (blob.next ≤ length file.now) × ((0 < classes) × (length filter.old ≡ 8192)) }
-    ensures { Judged (scans_from file.now 0) classes class (scan_at file.now blob) result filter.old filter.new }
+fn blob_apart(file: &[u8], blob: Field, class: u64, classes: u64, filter: &mut Filter) -> bool
+    requires { (blob.next ≤ length file.now) × (0 < classes) }
+    ensures { Judged (scans_from file.now 0) classes class (scan_at file.now blob) result filter.old.words filter.new.words }
 {
     let name = last_field(file, blob.start, blob.next, BLOB_NAME);
     let hash = hash_name(name);
-    if hash % classes != class {
+    if u64::from(hash) % classes != class {
         return true;
     }
-    let known = seen(filter, hash);
-    mark(filter, hash);
+    let known = filter.seen(hash);
+    filter.mark(hash);
     if !known {
         return true;
     }
@@ -55,25 +55,17 @@ fn blob_apart(file: &[u8], blob: Field, class: u64, classes: u64, filter: &mut [
 }
 
 // No name of a class stands twice, as found with a filter, which may say of any name that it knows it.
-fn class_apart(file: &[u8], class: u64, classes: u64, filter: &mut [u32]) -> bool
-    requires { (0 < classes) × (length filter.old ≡ 8192) }
+fn class_apart(file: &[u8], class: u64, classes: u64) -> bool
+    requires { 0 < classes }
     ensures { ClassTested (scans_from file.now 0) classes class result }
 {
+    let mut filter = Filter::new();
     for blob in Fields::new(file, 0, file.len(), STORE_BLOB) {
-        if !blob_apart(file, blob, class, classes, filter) {
+        if !blob_apart(file, blob, class, classes, &mut filter) {
             return false;
         }
     }
     true
-}
-
-// The same, with a filter that knows no name yet.
-fn class_different(file: &[u8], class: u64, classes: u64) -> bool
-    requires { 0 < classes }
-    ensures { ClassTested (scans_from file.now 0) classes class result }
-{
-    let mut filter = [0u32; FILTER_WORDS];
-    class_apart(file, class, classes, &mut filter)
 }
 
 // How many classes so many names are divided into.
@@ -92,7 +84,7 @@ pub fn all_different(file: &[u8], count: usize) -> bool
 {
     let classes = class_count(count);
     for class in 0..classes {
-        if !class_different(file, class, classes) {
+        if !class_apart(file, class, classes) {
             return false;
         }
     }

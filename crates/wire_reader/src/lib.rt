@@ -20,8 +20,7 @@ pub fn number_at(s: &[u8], at: usize, end: usize) -> Option<Number>
     let mut value: u64 = 0;
     let mut weight: u64 = 1;
     let mut i = at;
-    let mut left: usize = 10;
-    while 1 < left {
+    for _step in 0..9usize {
         if end <= i {
             return None;
         }
@@ -34,8 +33,7 @@ pub fn number_at(s: &[u8], at: usize, end: usize) -> Option<Number>
             });
         }
         value += weight * (b - 128);
-        weight = weight * 128;
-        left -= 1;
+        weight *= 128;
     }
     if end <= i {
         return None;

@@ -1,5 +1,5 @@
 -- `class_apart`: the blobs passed are apart in their class, and the filter knows each of them.
-use Rattle.std.proofs.Common.{ap, refl, ◌∙◌}
+use Rattle.std.proofs.Common.{ap, ◌∙◌}
 use Rattle.wire.proofs.Standing.{stand-turn}
 use Rattle.wire_reader.specs.Left.{left}
 use Rattle.store_file.specs.ScanLaws.{unread}
@@ -10,7 +10,7 @@ use Rattle.store_names.proofs.class_apart.Goals as goal
 pub loop-blob-init : goal.loop-blob-init
 loop-blob-init c =
     let u = unread c.args.file.now (left c.into_iter-blob-iterator.result) (ap left c.into_iter-blob-iterator.ensures.into_iter_gives ∙ c.new-blob-items.ensures) in
-    record { long = refl; stand = u.stand; passed = passed_on _ _ _ _ _ (passed_start _ _ _ _) _ u.scans }
+    record { stand = u.stand; passed = passed_on _ _ _ _ _ (passed_start _ _ _ _) _ u.scans }
 
 pub returns-then-not-blob_apart : goal.returns-then-not-blob_apart
 returns-then-not-blob_apart c =
@@ -21,7 +21,6 @@ loop-blob-preserved c =
     let i = c.loop-blob.invariant in
     let e = c.in-Some.ensures.steps in
     record {
-      long = c.blob_apart.ensures.long ∙ i.long;
       stand = (stand-turn c.in-Some.blob _ e i.stand).1;
       passed = passed-more _ _ _ _ _ i.passed _ _ (ap (scans_in c.args.file.now) e) _ _ c.blob_apart.ensures c.if-not-blob_apart.false;
     }

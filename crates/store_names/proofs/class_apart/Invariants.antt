@@ -1,5 +1,5 @@
 -- `class_apart`: the blobs passed are apart in their class, and the filter knows each of them.
-use Rattle.std.proofs.Common.{◌≡◌, length}
+use Rattle.std.proofs.Common.{length}
 use Rattle.laws.specs.Merge.{All}
 use Rattle.wire.proofs.Standing.{Stands}
 use Rattle.wire_reader.specs.Left.{left}
@@ -11,7 +11,6 @@ use Rattle.store_names.proofs.class_apart.Given as goal
 abbrev pub invariant-loop-blob : goal.invariant-loop-blob
 invariant-loop-blob l = let blobs = left l.blob-iterator in
     record {
-      long : length l.filter ≡ length l.initial.filter;
       stand : All (Stands blob_field (length l.file)) blobs;
-      passed : Passed (scans_from l.file 0) (scans_in l.file blobs) l.classes l.class l.filter;
+      passed : Passed (scans_from l.file 0) (scans_in l.file blobs) l.classes l.class l.filter.words;
     }
