@@ -15,26 +15,16 @@ pub const TRAY_MOST: usize = 64;
 pub fn form_of(records: &[u8]) -> Code
     ensures { result.0 ≡ tray_form records.now }
 {
-    let mut at: usize = 0;
-    let mut count: usize = 0;
-    while count < TRAY_MOST {
-        let Record::Whole {
-            clock: _,
-            start: _,
-            len: _,
-            next,
-        } = record_at(records, at)
-        else {
-            break;
-        };
-        at = next;
-        count += 1;
+    let mut at = 0;
+    for _count in 0..TRAY_MOST {
+        match record_at(records, at) {
+            Record::Whole { next, .. } => at = next,
+            Record::Cut => return Code::WRONG_LENGTH,
+            Record::End => return Code::SUCCESS,
+        }
     }
     if records.len() <= at {
-        return Code::SUCCESS;
-    }
-    if count < TRAY_MOST {
-        Code::WRONG_LENGTH
+        Code::SUCCESS
     } else {
         Code::TOO_LONG
     }
