@@ -150,18 +150,13 @@ pub fn keep_rest(buffer: &mut [u8], from: usize) -> usize
     if buffer.len() <= from {
         return 0;
     }
-    let n = buffer.len() - from;
-    let mut i: usize = 0;
-    while i < n {
-        buffer[i] = buffer[from + i];
-        i += 1;
-    }
-    n
+    buffer.copy_within(from.., 0);
+    buffer.len() - from
 }
 
 // At the end of the input bytes are left: the last record is cut.
 pub fn is_cut(left: &[u8]) -> bool
     ensures { end_of left.now ≡ cond result cut_line [] }
 {
-    0 < left.len()
+    !left.is_empty()
 }

@@ -37,32 +37,29 @@ pub fn put_hex(text: &mut [u8], at: usize, b: u8)
     text[at + 1] = digit(b % 16);
 }
 
-// The digits of the first len bytes are stored from a place on.
-fn put_hexes(text: &mut [u8], at: usize, bytes: &[u8], len: usize)
-    requires { (len ≤ length bytes.now) × (at + 2 * len ≤ length text.old) }
-    ensures { text.new ≡ sets text.old at (hexes (take len bytes.now)) }
+// The digits of bytes are stored from a place on.
+fn put_hexes(text: &mut [u8], at: usize, bytes: &[u8])
+    requires { at + 2 * length bytes.now ≤ length text.old }
+    ensures { text.new ≡ sets text.old at (hexes bytes.now) }
 {
-    let mut i: usize = 0;
-    while i < len {
-        put_hex(text, at + 2 * i, bytes[i]);
-        i += 1;
+    for (i, &b) in bytes.iter().enumerate() {
+        put_hex(text, at + 2 * i, b);
     }
 }
 
 // A line without its line feed (rule 20.4); the place behind it.
-fn write_answer(code: Code, answer: &[u8], len: usize, text: &mut [u8], at: usize) -> usize
-    requires { (len ≤ answer_size) × ((len ≤ length answer.now) × (at + line_most ≤ length text.old)) }
-    ensures { (result ≡ at + length (answer_text code.0 (take len answer.now))) × (text.new ≡ sets text.old at (answer_text code.0 (take len answer.now))) }
+fn write_answer(code: Code, response: &[u8], text: &mut [u8], at: usize) -> usize
+    requires { (length response.now ≤ answer_size) × (at + line_most ≤ length text.old) }
+    ensures { (result ≡ at + length (answer_text code.0 response.now)) × (text.new ≡ sets text.old at (answer_text code.0 response.now)) }
 {
     put_hex(text, at, code.0);
     let next = at + 2;
-    let success = Code::SUCCESS;
-    if code.0 != success.0 {
+    if code != Code::SUCCESS {
         return next;
     }
     text[next] = b' ';
-    put_hexes(text, next + 1, answer, len);
-    next + 1 + 2 * len
+    put_hexes(text, next + 1, response);
+    next + 1 + 2 * response.len()
 }
 
 // A line is written at a place; all other bytes stay; the place behind it.
@@ -70,7 +67,7 @@ pub fn write_line(code: Code, answer: &[u8], len: usize, text: &mut [u8], at: us
     requires { (len ≤ answer_size) × ((len ≤ length answer.now) × (at + line_most ≤ length text.old)) }
     ensures { (result ≡ at + length (line_of code.0 (take len answer.now))) × (text.new ≡ sets text.old at (line_of code.0 (take len answer.now))) }
 {
-    let end = write_answer(code, answer, len, text, at);
+    let end = write_answer(code, &answer[..len], text, at);
     text[end] = b'\n';
     end + 1
 }
@@ -79,5 +76,5 @@ pub fn write_line(code: Code, answer: &[u8], len: usize, text: &mut [u8], at: us
 pub fn cut_line() -> [u8; 4]
     ensures { result ≡ cut_line }
 {
-    [b'C', b'U', b'T', b'\n']
+    *b"CUT\n"
 }

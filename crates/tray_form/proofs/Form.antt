@@ -1,16 +1,17 @@
 -- The walk over a tray's records, and each end of it. Assumes nothing.
 use mathlib.Core.Path.{◌≡◌, refl, sym, ◌∙◌, ap, ap₂}
-use mathlib.Core.Bool.{true, cond}
+use mathlib.Core.Bool.{Bool, true, false, cond}
 use mathlib.Core.List.{List, [], ◌∷◌}
 use Prim.Native.Nat.{ℕ, suc, ◌+◌, ◌-◌, ◌≤◌, ◌<◌}
 use native.Mathlib.Nat.{add-zero, zero-add}
 use native.Mathlib.Omega.{arith}
-use lib.Dec.{eqb}
-use borrow.Author.Tests.{eq-eqb, ne_eqb}
+use lib.Dec.{eqb, leb}
+use borrow.Author.Tests.{eq-eqb, ne_eqb, leb-true, leb-false}
 use lib.ListN.{length, drop, length-drop, drop_of_length-le}
 use lib.Seq.{drop-drop}
 use Rattle.protocol.specs.Numbers.{success, wrong_length, too_long}
-use Rattle.records.specs.Records.{message_of, clock_of, size_of, is_whole, Timed, requests_in, bytes_in}
+use Rattle.records.specs.declared.Record.TheVariants.{Whole, Cut, End}
+use Rattle.records.specs.Records.{record_at, prefix_size, length_of, message_of, clock_of, size_of, is_whole, Timed, requests_in, bytes_in}
 use Rattle.records.proofs.Requests.{first-whole}
 use Rattle.records.proofs.Found.{Found, found_in}
 use Rattle.tray.proofs.Whole.{first-bytes}
@@ -81,3 +82,23 @@ module _ (b : List ℕ) (at count : ℕ) (w : Walk b at count) where
 pub all_seen : (b : List ℕ) (at count : ℕ) → tray_most ≤ count → requests_in (tray_most - count) (drop at b) ≡ []
 unfolding requests_in
 all_seen b at count h = let n : tray_most - count ≡ 0 = omega arith in ap (λ (k : ℕ). requests_in k (drop at b)) n
+
+-- a cut record lies in the bytes, and where there is none they are over
+pub cut-inside : (b : List ℕ) (at : ℕ) → Cut ≡ record_at b at → at < length b
+unfolding record_at
+cut-inside b at e = go (leb (length b) at) refl e
+  where
+    go : (y : Bool) → leb (length b) at ≡ y
+        → Cut ≡ cond y End (cond (is_whole (drop at b)) (Whole (clock_of (drop at b)) (at + prefix_size) (length_of (drop at b)) (at + size_of (drop at b))) Cut) → at < length b
+    go true q h = absurd (let z : ◌≡◌ {A = ℕ} 0 1 = cc in omega arith)
+    go false q h = leb-false (length b) at q
+
+pub end_reached : (b : List ℕ) (at : ℕ) → End ≡ record_at b at → length b ≤ at
+unfolding record_at
+end_reached b at e = go (leb (length b) at) (is_whole (drop at b)) refl e
+  where
+    go : (x y : Bool) → leb (length b) at ≡ x
+        → End ≡ cond x End (cond y (Whole (clock_of (drop at b)) (at + prefix_size) (length_of (drop at b)) (at + size_of (drop at b))) Cut) → length b ≤ at
+    go true y q h = leb-true (length b) at q
+    go false true q h = absurd (let z : ◌≡◌ {A = ℕ} 0 1 = cc in omega arith)
+    go false false q h = absurd (let z : ◌≡◌ {A = ℕ} 0 1 = cc in omega arith)

@@ -16,26 +16,16 @@ pub const TRAY_MOST: usize = 64;
 pub fn form_of(records: &[u8]) -> Result<(), Code>
     ensures { result ≡ verdict (tray_form records.now) }
 {
-    let mut at: usize = 0;
-    let mut count: usize = 0;
-    while count < TRAY_MOST {
-        let Record::Whole {
-            clock: _,
-            start: _,
-            len: _,
-            next,
-        } = record_at(records, at)
-        else {
-            break;
-        };
-        at = next;
-        count += 1;
+    let mut at = 0;
+    for _count in 0..TRAY_MOST {
+        match record_at(records, at) {
+            Record::Whole { next, .. } => at = next,
+            Record::Cut => return Err(Code::WRONG_LENGTH),
+            Record::End => return Ok(()),
+        }
     }
     if records.len() <= at {
-        return Ok(());
-    }
-    if count < TRAY_MOST {
-        Err(Code::WRONG_LENGTH)
+        Ok(())
     } else {
         Err(Code::TOO_LONG)
     }
