@@ -6,6 +6,7 @@ ghost use Rattle.laws.specs.Ranges.{part};
 ghost use Rattle.protocol.specs.Numbers.{row_count, row_words, slot_count, name_size, slot_size, image_size, hash_size};
 ghost use Rattle.protocol.specs.Frame.{laid};
 ghost use Rattle.state.specs.State.{state_of};
+ghost use Rattle.state.specs.Memory.{state_in, SameMemory};
 ghost use Rattle.state.specs.Words.{fresh};
 ghost use Rattle.rules.specs.Respond.{served};
 ghost use Rattle.request_answer.specs.Call.{answerable};
@@ -13,11 +14,11 @@ ghost use Rattle.run_lines.specs.Lines.{line_most, cut_line};
 ghost use Rattle.run_output.specs.Run.{end_of, ran};
 ghost use Rattle.run_buffer.specs.Step.{stepped, stepped_of, written_of};
 
-use protocol::ANSWER_SIZE;
+use protocol::{ANSWER_SIZE, Code};
 use records::{Record, record_at};
 use run_lines::{LINE_MOST, write_line};
-use sound::sound;
-use state::{Control, Phase, SLOTS};
+use sound::is_sound;
+use state::{Control, Memory, Phase, SLOTS};
 
 // The control block of a fresh state, in which all that is lent is zeros.
 pub fn fresh() -> Control
@@ -37,62 +38,36 @@ pub fn fresh() -> Control
     }
 }
 
-// The place behind a request's line, and the control block after it.
-#[derive(Clone, Copy)]
-struct Answered {
-    end: usize,
-    control: Control,
-}
-
-// One request, the len bytes from `start` on: it is answered, and its line is written at the place `at` of the text. `able` says whether the
-// state is sound and the answer buffer has its size.
+// One request, the len bytes from `start` on: it is answered, and its line is written at the place `at` of the text; the place behind the line.
+// `able` says whether the state is sound and the answer buffer has its size.
 fn answer_one(
     able: bool,
     records: &[u8],
     clock: u32,
     start: usize,
     len: usize,
-    control: Control,
-    table: &mut [u32],
-    names: &mut [u8],
-    committed: &mut [u8],
-    staged: &mut [u8],
-    image: &mut [u8],
-    hash: &mut [u8],
+    memory: &mut Memory<'_>,
     answer: &mut [u8],
     text: &mut [u8],
     at: usize,
-) -> Answered
-    requires able_value { able ≡ answerable (state_of control table.old names.old committed.old staged.old image.old hash.old) answer.old }
+) -> usize
+    requires able_value { able ≡ answerable (state_in memory.old) answer.old }
     requires len_in_bounds { (start + len ≤ length records.now) × (at + line_most ≤ length text.old) }
-    ensures { stepped_of result table.new names.new committed.new staged.new image.new hash.new answer.new text.new ≡ stepped (served clock (part start len records.now) (state_of control table.old names.old committed.old staged.old image.old hash.old) answer.old) text.old at }
+    ensures same_memory { SameMemory memory.old memory.new }
+    ensures stepped { stepped_of result memory.new answer.new text.new ≡ stepped (served clock (part start len records.now) (state_in memory.old) answer.old) text.old at }
 {
     let behind = start + len;
-    let reply = request_answer::answer(
-        able,
-        &records[start..behind],
-        clock,
-        control,
-        table,
-        names,
-        committed,
-        staged,
-        image,
-        hash,
-        answer,
-    );
-    let code = reply.code;
-    let end = write_line(code, answer, reply.len, text, at);
-    let next = reply.control;
-    Answered { end, control: next }
+    match request_answer::answer(able, &records[start..behind], clock, memory, answer) {
+        Ok(size) => write_line(Code::SUCCESS, answer, size, text, at),
+        Err(code) => write_line(code, answer, 0, text, at),
+    }
 }
 
-// How long the lines are that a run wrote, how many bytes its records have, and the control block after it.
+// How long the lines are that a run wrote, and how many bytes its records have.
 #[derive(Clone, Copy)]
 pub struct Ran {
     pub len: usize,
     pub used: usize,
-    pub control: Control,
 }
 
 // Answers one whole record after another, from the front of `records` on, while a longest line has room in the text. The lines stand at the
@@ -100,24 +75,17 @@ pub struct Ran {
 // unsound one as it is.
 pub fn run(
     records: &[u8],
-    control: Control,
-    table: &mut [u32],
-    names: &mut [u8],
-    committed: &mut [u8],
-    staged: &mut [u8],
-    image: &mut [u8],
-    hash: &mut [u8],
+    memory: &mut Memory<'_>,
     answer: &mut [u8],
     text: &mut [u8],
 ) -> Ran
-    ensures text_after { written_of result table.new names.new committed.new staged.new image.new hash.new answer.new text.new ≡ ran records.now (state_of control table.old names.old committed.old staged.old image.old hash.old) answer.old text.old }
+    ensures same_memory { SameMemory memory.old memory.new }
+    ensures text_after { written_of result memory.new answer.new text.new ≡ ran records.now (state_in memory.old) answer.old text.old }
     ensures len_in_bounds { (result.len ≤ length text.new) × (result.used ≤ length records.now) }
 {
-    let able = sound(control, table, names, committed, staged, image, hash)
-        & (answer.len() == ANSWER_SIZE);
+    let able = is_sound(memory) & (answer.len() == ANSWER_SIZE);
     let mut used: usize = 0;
     let mut end: usize = 0;
-    let mut kept = control;
     while LINE_MOST <= text.len() - end {
         let Record::Whole {
             clock,
@@ -128,19 +96,12 @@ pub fn run(
         else {
             break;
         };
-        let done = answer_one(
-            able, records, clock, start, len, kept, table, names, committed, staged, image, hash,
-            answer, text, end,
+        end = answer_one(
+            able, records, clock, start, len, memory, answer, text, end,
         );
         used = next;
-        end = done.end;
-        kept = done.control;
     }
-    Ran {
-        len: end,
-        used,
-        control: kept,
-    }
+    Ran { len: end, used }
 }
 
 // The bytes from `from` on are moved to the front of the buffer; how many they are.

@@ -1,20 +1,17 @@
 -- `run`: the run over the bytes so far, then the run over those that are left.
-use Rattle.std.proofs.Common.{refl, sym, ◌∙◌, ap, Bool, ◌&&◌, ◌+◌, ◌≤◌, arith, eqb, length}
+use Rattle.std.proofs.Common.{sym, ◌∙◌, ap, Bool, ◌&&◌, ◌+◌, ◌≤◌, arith, eqb, length}
 use Rattle.protocol.specs.Numbers.{answer_size}
 use Rattle.records.proofs.Found.{Found, found, found_in, found_none}
 use Rattle.request_answer.specs.Call.{answerable}
 use Rattle.run_buffer.specs.Progress.{begins, ends-full, ends-none, goes_to, able-kept}
 use Rattle.run_buffer.specs.Step.{Stepped}
 use Rattle.run_lines.specs.Lines.{line_most}
+use Rattle.state.specs.Memory.{same-memory, same-then}
 use Rattle.run_buffer.proofs.run.Goals as goal
 use Rattle.run_buffer.proofs.run.Goals.{In-Whole}
 
-pub sound-requires : goal.sound-requires
-sound-requires c = tt
-
 pub loop-text-init : goal.loop-text-init
-loop-text-init c =
-    (begins _ _ _ _, refl, refl, refl, refl, refl, refl, refl, ap (λ (y : Bool). y && eqb (length c.args.answer.now) answer_size) c.sound.ensures)
+loop-text-init c = (begins _ _ _ _, same-memory _, ap (λ (y : Bool). y && eqb (length c.args.answer.now) answer_size) c.is_sound.ensures)
 
 pub overflow_sub-text : goal.overflow_sub-text
 overflow_sub-text c = let p = c.loop-text.invariant.0 in omega arith
@@ -34,14 +31,14 @@ room c =
     let q = l.invariant.0.as_long in
     omega (arith, c.loop-text-test.true)
 
-pub answer_one-done-requires : goal.answer_one-done-requires
-answer_one-done-requires c =
+pub answer_one-end-requires : goal.answer_one-end-requires
+answer_one-end-requires c =
     record {
-      able_value = c.loop-text.invariant.8;
+      able_value = c.loop-text.invariant.2;
       len_in_bounds = (
-        (found_in (record-found (goal.at.answer_one-done-requires c).In-Whole)).0,
+        (found_in (record-found (goal.at.answer_one-end-requires c).In-Whole)).0,
         rw
-            c.loop-text.invariant.0.as_long (room (goal.at.answer_one-done-requires c).In-Whole),
+            c.loop-text.invariant.0.as_long (room (goal.at.answer_one-end-requires c).In-Whole),
       );
     }
 
@@ -54,27 +51,21 @@ loop-text-smaller c =
 
 pub loop-text-preserved : goal.loop-text-preserved
 loop-text-preserved c =
-    let l = c.loop-text in
-    let k = c.answer_one-done.auto in (
-      goes_to _ _ _ _ _ _ _ _ _ l.invariant.0 (record-found (goal.at.loop-text-preserved c).In-Whole) (room (goal.at.loop-text-preserved c).In-Whole) c.answer_one-done.ensures,
-      k.table ∙ l.invariant.1,
-      k.names ∙ l.invariant.2,
-      k.committed ∙ l.invariant.3,
-      k.staged ∙ l.invariant.4,
-      k.image ∙ l.invariant.5,
-      k.hash ∙ l.invariant.6,
-      k.answer ∙ l.invariant.7,
-      l.invariant.8 ∙ sym (able-kept _ _ _ _) ∙ ap (λ (w : Stepped). answerable w.state w.answer) (sym c.answer_one-done.ensures),
+    let l = c.loop-text in (
+      goes_to _ _ _ _ _ _ _ _ _ l.invariant.0 (record-found (goal.at.loop-text-preserved c).In-Whole) (room (goal.at.loop-text-preserved c).In-Whole) c.answer_one-end.ensures.stepped,
+      same-then l.invariant.1 c.answer_one-end.ensures.same_memory,
+      l.invariant.2 ∙ sym (able-kept _ _ _ _) ∙ ap (λ (w : Stepped). answerable w.state w.answer) (sym c.answer_one-end.ensures.stepped),
     )
 
 pub returns-after-loop-text : goal.returns-after-loop-text
 returns-after-loop-text c =
     let p = c.loop-text.invariant.0 in
-    record { text_after = ends-full _ _ _ _ _ _ _ _ _ p (omega arith); len_in_bounds = (rw p.as_long p.end-in, p.at_in) }
+    record { same_memory = c.loop-text.invariant.1; text_after = ends-full _ _ _ _ _ _ _ _ _ p (omega arith); len_in_bounds = (rw p.as_long p.end-in, p.at_in) }
 
 pub returns-in_default : goal.returns-in_default
 returns-in_default c =
     let p = c.loop-text.invariant.0 in record {
+      same_memory = c.loop-text.invariant.1;
       text_after = ends-none _ _ _ _ _ _ _ _ _ p (found_none _ _ c.record_at.result c.record_at.ensures c.in_default.not-Whole);
       len_in_bounds = (rw p.as_long p.end-in, p.at_in);
     }
