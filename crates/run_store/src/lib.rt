@@ -141,7 +141,7 @@ impl Cabinet {
         self.load(&store[..len]).map_err(StoreError::Refused)
     }
 
-    // The parts of the store are written to a new file, one behind the other; each stands in the buffer first.
+    // The parts of the store are written to a new file, one behind the other.
     fn write_parts(&self, file: &mut impl Write) -> Result<(), StoreError> {
         let mut buffer = [0u8; BUFFER_SIZE];
         for part in 0..=PARTS_MOST {
@@ -154,7 +154,7 @@ impl Cabinet {
         Err(StoreError::NotSound)
     }
 
-    // A new file takes the place of the one at `path`, once all of the store is written and has reached its device.
+    // The new file, whose own path is `name`, takes the place of the one at `path` once all of the store is written and has reached its device.
     fn replace<R: Files>(
         &self,
         rt: &R,
@@ -163,8 +163,7 @@ impl Cabinet {
         path: &str,
     ) -> Result<(), StoreError> {
         self.write_parts(&mut file)?;
-        file.set_permissions(Permissions::from_mode(FILE_MODE))?;
-        file.sync_all()?;
+        settle(&file)?;
         drop(file);
         fs::rename(rt, name, path)?;
         Ok(())
@@ -188,6 +187,12 @@ impl Cabinet {
         }
         replaced
     }
+}
+
+// The new file's bytes reach its device.
+fn settle(file: &impl OpenFile) -> io::Result<()> {
+    file.set_permissions(Permissions::from_mode(FILE_MODE))?;
+    file.sync_all()
 }
 
 // A path beside another, the last characters of which are chosen.

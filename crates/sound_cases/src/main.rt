@@ -30,7 +30,7 @@ struct State {
 
 // The lengths of 16 slots, at the front of some words.
 fn lengths(words: &[u32]) -> [u32; SLOTS]
-    requires { 16 ≤ length words.now }
+    requires { SLOTS ≤ length words.now }
 {
     let mut lengths = [0; SLOTS];
     lengths.copy_from_slice(&words[..SLOTS]);
