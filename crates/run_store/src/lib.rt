@@ -104,10 +104,9 @@ impl Cabinet {
             &self.hash,
         );
         self.control = loading.control;
-        if loading.code == Code::SUCCESS {
-            Ok(())
-        } else {
-            Err(loading.code)
+        match loading.code {
+            Code::SUCCESS => Ok(()),
+            code => Err(code),
         }
     }
 
@@ -126,10 +125,9 @@ impl Cabinet {
             &self.hash,
             buffer,
         );
-        if saved.code == Code::SUCCESS {
-            Ok(saved.len)
-        } else {
-            Err(saved.code)
+        match saved.code {
+            Code::SUCCESS => Ok(saved.len),
+            code => Err(code),
         }
     }
 
@@ -147,7 +145,7 @@ impl Cabinet {
         for part in 0..=PARTS_MOST {
             match self.save_part(part, &mut buffer) {
                 Ok(len) => file.write_all(&buffer[..len])?,
-                Err(code) if code == Code::OUT_OF_RANGE => return Ok(()),
+                Err(Code::OUT_OF_RANGE) => return Ok(()),
                 Err(_) => return Err(StoreError::NotSound),
             }
         }
