@@ -2,151 +2,86 @@
 // responses.
 #![tactic(auto)]
 
-ghost use Rattle.std.specs.Prelude.{◌≤◌, ◌<◌, length};
+ghost use Rattle.std.specs.Prelude.{◌≤◌, length};
 
 use protocol::{Blob, Request, Subcommand};
-use std::io;
+use std::fmt::{Display, Formatter};
 use std::io::Read;
+use std::{fmt, io};
 
 // The most of the input that is read.
 const INPUT_MOST: u64 = 65536;
 
-// A request in numbers: its subcommand or its completion code, then its values.
-#[derive(Drop)]
-struct Line {
-    number: u64,
-    a: u64,
-    b: u64,
-    c: u64,
-    d: u64,
-}
-
-// A name in numbers: 0 and where it stands of a store name, the blob's number of a flash name, and two numbers of our own for the base
-// and for an unknown name.
-#[derive(Drop)]
-struct Name {
-    kind: u64,
-    start: u64,
-    len: u64,
-}
+// Where a line has a blob's number, these stand for a store name, the base and an unknown name.
+const STORE: u64 = 0;
 
 const BASE: u64 = 0x20;
 
 const UNKNOWN: u64 = 0x21;
 
-fn name_of(b: Blob) -> Name {
-    match b {
-        Blob::Store { start, len } => Name {
-            kind: 0,
-            start: start as u64,
-            len: len as u64,
-        },
-        Blob::Flash(k) => Name {
-            kind: k.number() as u64,
-            start: 0,
-            len: 0,
-        },
-        Blob::Base => Name {
-            kind: BASE,
-            start: 0,
-            len: 0,
-        },
-        Blob::Unknown => Name {
-            kind: UNKNOWN,
-            start: 0,
-            len: 0,
-        },
+// A request as its line shows it.
+#[derive(Clone, Copy)]
+struct Line(Request);
+
+impl Display for Line {
+    fn fmt<W: fmt::Write>(&self, f: &mut Formatter<W>) -> fmt::Result {
+        let number = self.0.number();
+        let [a, b, c, d] = values_of(self.0);
+        write!(f, "{number:02x} {a:08x} {b:08x} {c:08x} {d:02x}")
     }
 }
 
-fn of_three(number: u64, a: u64, b: u64, c: u64) -> Line {
-    Line {
-        number,
-        a,
-        b,
-        c,
-        d: 0,
+// What a name names, and where a store name stands.
+fn name_of(blob: Blob) -> [u64; 3] {
+    match blob {
+        Blob::Store { start, len } => [STORE, start as u64, len as u64],
+        Blob::Flash(kind) => [u64::from(kind.number()), 0, 0],
+        Blob::Base => [BASE, 0, 0],
+        Blob::Unknown => [UNKNOWN, 0, 0],
     }
 }
 
-fn named(number: u64, a: u64, blob: Blob) -> Line {
-    let n = name_of(blob);
-    Line {
-        number,
-        a,
-        b: n.kind,
-        c: n.start,
-        d: n.len,
-    }
+fn named(value: u64, blob: Blob) -> [u64; 4] {
+    let [kind, start, len] = name_of(blob);
+    [value, kind, start, len]
 }
 
-fn line_of(r: Request) -> Line {
-    let number = r.number() as u64;
-    match r {
-        Request::Count => of_three(number, 0, 0, 0),
-        Request::Enumerate { index } => of_three(number, index as u64, 0, 0),
-        Request::Open { flags, blob } => named(number, flags as u64, blob),
+// What a request asks, in four numbers.
+fn values_of(request: Request) -> [u64; 4] {
+    match request {
+        Request::Enumerate { index } => [u64::from(index), 0, 0, 0],
+        Request::Open { flags, blob } => named(u64::from(flags), blob),
         Request::Read {
             session,
             offset,
             count,
-        } => of_three(number, session as u64, offset as u64, count as u64),
+        } => [u64::from(session), u64::from(offset), u64::from(count), 0],
         Request::Write {
             session,
             offset,
             start,
-        } => of_three(number, session as u64, offset as u64, start as u64),
-        Request::Commit { session, len, rest } => of_three(
-            number,
-            session as u64,
-            len as u64,
-            rest as u64,
-        ),
-        Request::Close { session } => of_three(number, session as u64, 0, 0),
-        Request::Delete { blob } => named(number, 0, blob),
-        Request::Stat { blob } => named(number, 0, blob),
-        Request::SessionStat { session } => of_three(number, session as u64, 0, 0),
-        Request::WriteMeta { session } => of_three(number, session as u64, 0, 0),
-        Request::Refused(_) => of_three(number, 0, 0, 0),
+        } => [u64::from(session), u64::from(offset), start as u64, 0],
+        Request::Commit { session, len, rest } => {
+            [u64::from(session), u64::from(len), rest as u64, 0]
+        }
+        Request::Delete { blob } | Request::Stat { blob } => named(0, blob),
+        Request::Close { session }
+        | Request::SessionStat { session }
+        | Request::WriteMeta { session } => [u64::from(session), 0, 0, 0],
+        Request::Count | Request::Refused(_) => [0; 4],
     }
 }
 
-fn say_line(rt: &impl Print, line: Line) -> io::Result<()> {
-    let Line { number, a, b, c, d } = line;
-    println!(rt; "{number:02x} {a:08x} {b:08x} {c:08x} {d:02x}")
-}
-
-// Where the message at a place ends; the next begins there. One that is cut short ends with the input.
-fn next(s: &[u8], at: usize) -> usize
-    requires { at < length s.now }
-    ensures { (at < result) × (result ≤ length s.now) }
-{
-    let n = s[at] as usize;
-    let from = at + 1;
-    if s.len() - from < n {
-        return s.len();
-    }
-    from + n
-}
-
-// A message, with the byte before it that says how long it is.
-fn say_message(rt: &impl Print, counted: &[u8]) -> io::Result<()> {
-    let Some((len, message)) = counted.split_first() else {
-        return Ok(());
-    };
-    if message.len() < *len as usize {
-        println!(rt; "cut")
-    } else {
-        say_line(rt, line_of(request_decode::decode(message)))
-    }
-}
-
-fn every(rt: &impl Print, s: &[u8]) -> io::Result<()> {
-    let mut at = 0;
-    while at < s.len() {
-        let end = next(s, at);
-        say_message(rt, &s[at..end])?;
-        at = end;
+// All messages, each behind the byte that says how long it is; one that is cut short is the last.
+fn every(rt: &impl Print, input: &[u8]) -> io::Result<()> {
+    let mut left = input;
+    while let Some((len, behind)) = left.split_first() {
+        let Some((message, next)) = behind.split_at_checked(usize::from(*len)) else {
+            return println!(rt; "cut");
+        };
+        let line = Line(request_decode::decode(message));
+        println!(rt; "{line}")?;
+        left = next;
     }
     Ok(())
 }

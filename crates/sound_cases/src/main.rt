@@ -4,10 +4,10 @@
 // length, next identifier, last sweep. tests/sound_cases.py writes the input and the expected output.
 #![tactic(auto)]
 
-ghost use Rattle.std.specs.Prelude.{◌+◌, ◌≤◌, length};
+ghost use Rattle.std.specs.Prelude.{◌≤◌, length};
 
 use sound::sound;
-use state::{Control, Phase};
+use state::{Control, HASH_SIZE, IMAGE_SIZE, NAME_SIZE, Phase, ROW_WORDS, ROWS, SLOT_SIZE, SLOTS};
 use std::io;
 use std::io::Read;
 
@@ -18,148 +18,97 @@ const RECORD: usize = 7;
 
 const CONTROL_WORDS: usize = 40;
 
-// The 16 words from a place on.
-fn lengths(words: &[u32], at: usize) -> [u32; 16]
-    requires { at + 16 ≤ length words.now }
+// A state as the records write it: the control words and the memory that they speak of.
+#[derive(Drop)]
+struct State {
+    words: [u32; CONTROL_WORDS],
+    table: [u32; ROWS * ROW_WORDS],
+    names: [u8; SLOTS * NAME_SIZE],
+    committed: [u8; SLOTS * SLOT_SIZE],
+    staged: [u8; SLOTS * SLOT_SIZE],
+}
+
+// The lengths of 16 slots, at the front of some words.
+fn lengths(words: &[u32]) -> [u32; SLOTS]
+    requires { SLOTS ≤ length words.now }
 {
-    [
-        words[at],
-        words[at + 1],
-        words[at + 2],
-        words[at + 3],
-        words[at + 4],
-        words[at + 5],
-        words[at + 6],
-        words[at + 7],
-        words[at + 8],
-        words[at + 9],
-        words[at + 10],
-        words[at + 11],
-        words[at + 12],
-        words[at + 13],
-        words[at + 14],
-        words[at + 15],
-    ]
+    let mut lengths = [0; SLOTS];
+    lengths.copy_from_slice(&words[..SLOTS]);
+    lengths
 }
 
-fn phase_of(word: u32) -> Phase {
-    if word == 0 {
-        return Phase::Idle;
+impl State {
+    fn control(&self) -> Control {
+        let words = &self.words;
+        Control {
+            rows: words[0],
+            slots: words[1],
+            marks: words[2],
+            committed_len: lengths(&words[3..]),
+            staged_len: lengths(&words[19..]),
+            phase: match words[35] {
+                0 => Phase::Idle,
+                1 => Phase::Uploading,
+                _ => Phase::Verified,
+            },
+            image_len: words[36],
+            hash_len: words[37],
+            next: words[38],
+            last_sweep: words[39],
+        }
     }
-    if word == 1 {
-        return Phase::Uploading;
-    }
-    Phase::Verified
-}
 
-fn is_sound(words: &[u32], table: &[u32], names: &[u8], committed: &[u8], staged: &[u8]) -> bool {
-    if words.len() != CONTROL_WORDS {
-        return false;
+    fn is_sound(&self) -> bool {
+        sound(
+            self.control(),
+            &self.table,
+            &self.names,
+            &self.committed,
+            &self.staged,
+            &[0u8; IMAGE_SIZE],
+            &[0u8; HASH_SIZE],
+        )
     }
-    let committed_len = lengths(words, 3);
-    let staged_len = lengths(words, 19);
-    let phase = phase_of(words[35]);
-    let control = Control {
-        rows: words[0],
-        slots: words[1],
-        marks: words[2],
-        committed_len,
-        staged_len,
-        phase,
-        image_len: words[36],
-        hash_len: words[37],
-        next: words[38],
-        last_sweep: words[39],
-    };
-    let image = [0u8; 16384];
-    let hash = [0u8; 64];
-    sound(control, table, names, committed, staged, &image, &hash)
-}
 
-fn say(rt: &impl Print, ok: bool) -> io::Result<()> {
-    if ok {
-        println!(rt; "sound")
-    } else {
-        println!(rt; "not sound")
+    // One record.
+    fn step(&mut self, rt: &impl Print, record: &[u8]) -> io::Result<()> {
+        let &[what, at_low, at_high, a, b, c, d] = record else {
+            return Ok(());
+        };
+        let at = usize::from(u16::from_le_bytes([at_low, at_high]));
+        let value = u32::from_le_bytes([a, b, c, d]);
+        match what {
+            0 => put(&mut self.words, at, value),
+            1 => put(&mut self.table, at, value),
+            2 => put(&mut self.names, at, a),
+            3 => put(&mut self.committed, at, a),
+            4 => put(&mut self.staged, at, a),
+            _ if self.is_sound() => println!(rt; "sound")?,
+            _ => println!(rt; "not sound")?,
+        }
+        Ok(())
     }
 }
 
-fn put_word(words: &mut [u32], at: usize, value: u32) {
-    if at < words.len() {
-        words[at] = value;
+// A value is stored at a place, if there is such a place.
+fn put<T: Copy>(values: &mut [T], at: usize, value: T) {
+    if let Some(place) = values.get_mut(at) {
+        *place = value;
     }
-}
-
-fn put_byte(bytes: &mut [u8], at: usize, value: u8) {
-    if at < bytes.len() {
-        bytes[at] = value;
-    }
-}
-
-// One record.
-fn step(
-    rt: &impl Print,
-    record: &[u8],
-    words: &mut [u32],
-    table: &mut [u32],
-    names: &mut [u8],
-    committed: &mut [u8],
-    staged: &mut [u8],
-) -> io::Result<()> {
-    if record.len() != RECORD {
-        return Ok(());
-    }
-    let what = record[0];
-    let at = request_reader::u16_at(record, 1) as usize;
-    let value = request_reader::u32_at(record, 3);
-    let low = record[3];
-    if what == 0 {
-        put_word(words, at, value);
-    } else if what == 1 {
-        put_word(table, at, value);
-    } else if what == 2 {
-        put_byte(names, at, low);
-    } else if what == 3 {
-        put_byte(committed, at, low);
-    } else if what == 4 {
-        put_byte(staged, at, low);
-    } else {
-        say(rt, is_sound(words, table, names, committed, staged))?;
-    }
-    Ok(())
-}
-
-// Record after record.
-fn every(
-    rt: &impl Print,
-    input: &[u8],
-    words: &mut [u32],
-    table: &mut [u32],
-    names: &mut [u8],
-    committed: &mut [u8],
-    staged: &mut [u8],
-) -> io::Result<()> {
-    for record in input.chunks_exact(RECORD) {
-        step(rt, record, words, table, names, committed, staged)?;
-    }
-    Ok(())
 }
 
 fn main(rt: HostRuntime) -> io::Result<()> {
-    let mut words = [0u32; 40];
-    let mut table = [0u32; 64];
-    let mut names = [0u8; 512];
-    let mut committed = [0u8; 65536];
-    let mut staged = [0u8; 65536];
+    let mut state = State {
+        words: [0; CONTROL_WORDS],
+        table: [0; ROWS * ROW_WORDS],
+        names: [0; SLOTS * NAME_SIZE],
+        committed: [0; SLOTS * SLOT_SIZE],
+        staged: [0; SLOTS * SLOT_SIZE],
+    };
     let mut input = Vec::new(rt.alloc());
     rt.reader().take(INPUT_MOST).read_to_end(&mut input)?;
-    every(
-        &rt,
-        &input,
-        &mut words,
-        &mut table,
-        &mut names,
-        &mut committed,
-        &mut staged,
-    )
+    for record in input.chunks_exact(RECORD) {
+        state.step(&rt, record)?;
+    }
+    Ok(())
 }
