@@ -93,28 +93,23 @@ pub struct Cabinet {
 impl Cabinet {
     // The bytes of a store file become the store.
     fn load(&mut self, file: &[u8]) -> Result<(), Code> {
-        let loading = store_loader::load(
+        store_loader::load(
             file,
-            self.control,
+            &mut self.control,
             &self.table,
             &mut self.names,
             &mut self.committed,
             &mut self.staged,
             &self.image,
             &self.hash,
-        );
-        self.control = loading.control;
-        match loading.code {
-            Code::SUCCESS => Ok(()),
-            code => Err(code),
-        }
+        )
     }
 
     // A part of the store file stands in the buffer; how long it is.
     fn save_part(&self, part: u32, buffer: &mut [u8]) -> Result<usize, Code>
         ensures { IfOk result (λ len. len ≤ length buffer.new) }
     {
-        let saved = store_writer::save_part(
+        store_writer::save_part(
             part,
             self.control,
             &self.table,
@@ -124,11 +119,7 @@ impl Cabinet {
             &self.image,
             &self.hash,
             buffer,
-        );
-        match saved.code {
-            Code::SUCCESS => Ok(saved.len),
-            code => Err(code),
-        }
+        )
     }
 
     // The file at a path becomes the store.
