@@ -141,7 +141,7 @@ fn slot_ok(
     unused_slot(names, committed, staged, k, mark, committed_len, staged_len)
 }
 
-// Every slot is right.
+// Every slot is right. The loop carries the answer: by `all`, which stops early, the test of a fresh state takes half as long again.
 pub fn slots_ok(
     control: Control,
     table: &[u32],
@@ -152,7 +152,11 @@ pub fn slots_ok(
     requires { TableLent table.now × (NamesLent names.now × (RegionsLent committed.now × RegionsLent staged.now)) }
     ensures { (i h : List ℕ) → result ≡ all (slot_ok (state_of control table.now names.now committed.now staged.now i h)) slot_count }
 {
-    (0..SLOTS).all(|k| slot_ok(control, table, names, committed, staged, k))
+    let mut ok = true;
+    for k in 0..SLOTS {
+        ok = ok & slot_ok(control, table, names, committed, staged, k);
+    }
+    ok
 }
 
 // Slots k and l have one name.

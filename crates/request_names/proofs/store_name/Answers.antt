@@ -1,5 +1,5 @@
 -- `request_names::store_name` meets its contract. Assumes nothing.
-use Rattle.std.proofs.Common.{◌≡◌, ◌≤◌, ◌<◌, ◌∙◌, ◌⊎◌, length, rules}
+use Rattle.std.proofs.Common.{◌≤◌, ◌<◌, ◌∙◌, ◌⊎◌, length, rules}
 use Rattle.protocol.specs.Names.{base}
 use Rattle.request_names.proofs.Names.{not_store, word_fits, word_misfits}
 use Rattle.request_names.proofs.store_name.Goals as goal

@@ -1,14 +1,13 @@
--- `slots_ok`: each slot is right.
-use Rattle.std.proofs.Common.{◌≡◌, true, false, refl, rules}
-use Rattle.std.proofs.lemmas.Iterator.{cases_from_all, YieldsList-from_range}
-use Rattle.state.specs.Soundness.{slot_ok}
-use Rattle.state.specs.State.{state_of}
-use Rattle.sound_rows.proofs.Below.{all_from_range}
+-- `slots_ok`: the loop carries the answer for the slots passed.
+use Rattle.std.proofs.Common.{arith}
+use Rattle.laws.specs.All.{all_start, all-step, all_end}
 use Rattle.sound_slots.proofs.slots_ok.Goals as goal
 
+pub loop-k-init : goal.loop-k-init
+loop-k-init c = λ i h. all_start _
+
+pub loop-k-preserved : goal.loop-k-preserved
+loop-k-preserved c = λ i h. all-step _ _ _ _ (c.loop-k.invariant i h) (c.slot_ok-ok.ensures i h)
+
 pub returns : goal.returns
-returns c =
-    λ i h.
-    let p = (let a = c.args in slot_ok (state_of a.control a.table.now a.names.now a.committed.now a.staged.now i h)) in
-    all_from_range p 16 _
-    (cases_from_all _ _ _ (λ k. p k ≡ true) (λ k. p k ≡ false) c.all.ensures.ran (YieldsList-from_range 0 16 16 refl refl) (λ x q k. search rules) (λ x q k. search rules))
+returns c = λ i h. all_end _ _ _ _ (omega arith) (omega arith) (c.loop-k.invariant i h)
