@@ -47,12 +47,7 @@ fn store_open(rows: u32, table: &[u32]) -> bool
 }
 
 // Every slot becomes unused: names, regions, masks and lengths are zeroed.
-fn clear_store(
-    control: &mut Control,
-    names: &mut [u8],
-    committed: &mut [u8],
-    staged: &mut [u8],
-)
+fn clear_store(control: &mut Control, names: &mut [u8], committed: &mut [u8], staged: &mut [u8])
     requires { NamesLent names.old × (RegionsLent committed.old × RegionsLent staged.old) }
     ensures { (table image hash : List ℕ) → state_of control.new table names.new committed.new staged.new image hash ≡ in_store.put fresh.store (state_of control.old table names.old committed.old staged.old image hash) }
 {
