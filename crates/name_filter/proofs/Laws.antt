@@ -3,7 +3,6 @@ use mathlib.Core.Path.{◌≡◌, refl, sym, ◌∙◌, ap}
 use mathlib.Core.Bool.{Bool, true, false}
 use mathlib.Core.List.{List}
 use Prim.Native.Nat.{ℕ, ◌+◌, ◌*◌, ◌/◌, ◌%◌, ◌^◌, ◌≤◌, ◌<◌}
-use native.Mathlib.Nat.{mul-le-mul_right}
 use native.Mathlib.Numerals.{add-one}
 use native.Mathlib.Omega.{arith}
 use lib.Dec.{eqb}
@@ -25,10 +24,6 @@ hash-more h s i l = rw (add-one, drop-cons s i 0 l)
 pub hash-end : (h : ℕ) (s : List ℕ) (i : ℕ) → length s ≤ i → hash_from h (drop i s) ≡ h
 unfolding hash_from
 hash-end h s i l = rw (drop_of_length-le s l)
-
--- ---- the distance of a place from the first one
-pub far : (i stride : ℕ) → i < probes → stride < 262144 → i * stride < 2097152
-far i stride h q = let e : i * stride ≤ 8 * stride = mul-le-mul_right stride (omega arith) in omega arith
 
 -- ---- one bit set: `1 << i` is its weight
 pub set-by-or : (i m : ℕ) → i < 32 → bit_or m (1 * 2 ^ i % 4294967296) ≡ put_bit i 1 m

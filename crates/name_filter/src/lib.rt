@@ -2,7 +2,7 @@
 // new; where all are set, it may be one of those seen, and the caller compares it with them.
 #![tactic(auto)]
 
-ghost use Rattle.std.specs.Prelude.{◌≡◌, ◌<◌, replicate, length};
+ghost use Rattle.std.specs.Prelude.{◌≡◌, ◌<◌, replicate};
 ghost use Rattle.name_filter.specs.Hash.{hash_step, name_hash};
 ghost use Rattle.name_filter.specs.Filter.{filter_words, bit_at, with_bit, place_of, seen_in, Marked};
 

@@ -47,12 +47,7 @@ fn store_open(rows: u32, table: &[u32]) -> bool
 }
 
 // Every slot becomes unused: names, regions, masks and lengths are zeroed.
-fn clear_store(
-    control: &mut Control,
-    names: &mut [u8],
-    committed: &mut [u8],
-    staged: &mut [u8],
-)
+fn clear_store(control: &mut Control, names: &mut [u8], committed: &mut [u8], staged: &mut [u8])
     requires { NamesLent names.old × (RegionsLent committed.old × RegionsLent staged.old) }
     ensures { (table image hash : List ℕ) → state_of control.new table names.new committed.new staged.new image hash ≡ in_store.put fresh.store (state_of control.old table names.old committed.old staged.old image hash) }
 {
@@ -93,10 +88,8 @@ fn fill_all(file: &[u8], control: &mut Control, names: &mut [u8], committed: &mu
     requires { NamesLent names.old × (RegionsLent committed.old × Storable (scans_from file.now 0)) }
     ensures { (table staged image hash : List ℕ) → staged ≡ replicate (slot_count * slot_size) 0 → state_of control.new table names.new committed.new staged image hash ≡ filling 0 (scans_from file.now 0) (state_of control.old table names.old committed.old staged image hash) }
 {
-    let mut k: usize = 0;
-    for blob in Fields::new(file, 0, file.len(), STORE_BLOB) {
+    for (k, blob) in Fields::new(file, 0, file.len(), STORE_BLOB).enumerate() {
         fill_slot(file, blob, k, control, names, committed);
-        k += 1;
     }
 }
 

@@ -1,6 +1,6 @@
 -- The fields of one number stand in their message. Assumes nothing.
-use Rattle.std.specs.Prelude.{◌≡◌, refl, Result, Ok, Err, Bool, true, false, cond, List, [], ◌∷◌, ℕ, zero, suc, ◌-◌, ◌≤◌, ◌<◌, eqb, ltb, length}
-use Rattle.std.proofs.Common.{arith, eqb-true, ltb-true}
+use Rattle.std.specs.Prelude.{◌≡◌, refl, Result, Ok, Err, Bool, true, false, cond, List, ◌∷◌, ℕ, zero, suc, ◌-◌, ◌≤◌, eqb, ltb, length}
+use Rattle.std.proofs.Common.{arith, eqb-true}
 use Rattle.protocol.specs.declared.Code.{Code}
 use Rattle.laws.specs.Merge.{All}
 use Rattle.wire.specs.declared.Field.{Field}

@@ -19,8 +19,8 @@ returns-then-part-eq0-clause-laid c =
     let h : length b ≡ buffer_size = c.requires.buffer-size in
     let n : c.put_field.result ≡ length (written (base_field, base)) = c.put_field.ensures.0 ∙ zero-add _ in
     λ table staged image hash.
-        call-laid (written (base_field, base)) b c.put_field.new.dst c.put_field.result _ (part-base c.args.part _ c.if-part-eq0.true) n
-        c.put_field.ensures.1 (omega (arith, base-fits))
+    call-laid (written (base_field, base)) b c.put_field.new.dst c.put_field.result _ (part-base c.args.part _ c.if-part-eq0.true) n
+    c.put_field.ensures.1 (omega (arith, base-fits))
 
 pub returns-then-part-eq0-clause-short : goal.returns-then-part-eq0-clause-short
 unfolding base
@@ -51,9 +51,9 @@ returns-clause-laid c =
     let h : length a.buffer.now ≡ buffer_size = c.requires.buffer-size in
     let f = blob-fits a.names.now a.committed.now k len (c.requires.lens-fit k found.ensures.low) in
     λ table staged image hash.
-        call-laid (written (blob_content (scan_in a.names.now a.committed.now k len))) a.buffer.now c.put_slot.new.dst c.put_slot.result _
-        (part-slot a.part _ c.if-part-eq0.false c.requires.marks-small k (omega arith) found.ensures)
-        c.put_slot.ensures.0 c.put_slot.ensures.1 (omega arith)
+    call-laid (written (blob_content (scan_in a.names.now a.committed.now k len))) a.buffer.now c.put_slot.new.dst c.put_slot.result _
+    (part-slot a.part _ c.if-part-eq0.false c.requires.marks-small k (omega arith) found.ensures)
+    c.put_slot.ensures.0 c.put_slot.ensures.1 (omega arith)
 
 pub returns-clause-short : goal.returns-clause-short
 returns-clause-short c =
