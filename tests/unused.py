@@ -39,7 +39,7 @@ class Source:
         for found in USE.finditer(text):
             listed, renamed = found.group(2), found.group(3)
             if listed is not None:
-                self.brought += [name.split(" as ")[-1].strip() for name in listed.split(",") if name.strip()]
+                self.brought += [name.split(" as ")[-1].strip().strip("«»") for name in listed.split(",") if name.strip()]
             else:
                 self.brought.append(renamed or re.split(r"::|\.", found.group(1))[-1])
 
