@@ -39,12 +39,12 @@ NUMBERS = {
     "MESSAGE_SIZE": "message_size, protocol::MESSAGE_SIZE", "OEM_SIZE": "len(oem), protocol::OEM_SIZE", "SUBCOMMAND_AT": "len(oem), subcommand",
     "HEADER_SIZE": "header_size, protocol::HEADER_SIZE", "CRC_AT": "header_size", "CRC_SIZE": "crc_size", "FIELDS_AT": "fields_at, protocol::FIELDS_AT",
     "CRC_START": "start, crc::START", "CRC_POLYNOMIAL": "poly",
-    "COMMAND_GET_COUNT": "count_command, protocol::Subcommand::COUNT", "COMMAND_ENUMERATE": "enumerate_command, protocol::Subcommand::ENUMERATE",
-    "COMMAND_OPEN": "open_command, protocol::Subcommand::OPEN", "COMMAND_READ": "read_command, protocol::Subcommand::READ",
-    "COMMAND_WRITE": "write_command, protocol::Subcommand::WRITE", "COMMAND_COMMIT": "commit_command, protocol::Subcommand::COMMIT",
-    "COMMAND_CLOSE": "close_command, protocol::Subcommand::CLOSE", "COMMAND_DELETE": "delete_command, protocol::Subcommand::DELETE",
-    "COMMAND_STAT": "stat_command, protocol::Subcommand::STAT", "COMMAND_SESSION_STAT": "session_stat_command, protocol::Subcommand::SESSION_STAT",
-    "COMMAND_WRITE_META": "write_meta_command, protocol::Subcommand::WRITE_META", "COMMAND_LAST": "write_meta_command",
+    "COMMAND_GET_COUNT": "count_command, protocol::Subcommand::Count", "COMMAND_ENUMERATE": "enumerate_command, protocol::Subcommand::Enumerate",
+    "COMMAND_OPEN": "open_command, protocol::Subcommand::Open", "COMMAND_READ": "read_command, protocol::Subcommand::Read",
+    "COMMAND_WRITE": "write_command, protocol::Subcommand::Write", "COMMAND_COMMIT": "commit_command, protocol::Subcommand::Commit",
+    "COMMAND_CLOSE": "close_command, protocol::Subcommand::Close", "COMMAND_DELETE": "delete_command, protocol::Subcommand::Delete",
+    "COMMAND_STAT": "stat_command, protocol::Subcommand::Stat", "COMMAND_SESSION_STAT": "session_stat_command, protocol::Subcommand::SessionStat",
+    "COMMAND_WRITE_META": "write_meta_command, protocol::Subcommand::WriteMeta", "COMMAND_LAST": "write_meta_command",
     "INDEX_WIDTH": "Enumerate.index.width", "FLAGS_WIDTH": "Open.flags.width", "OFFSET_WIDTH": "Read.offset.width, Write.offset.width", "READ_COUNT_WIDTH": "Read.count.width",
     "SESSION_WIDTH": "Open.reply.session.width, Read.session.width, Write.session.width, Commit.session.width, Close.session.width, SessionStat.session.width, WriteMeta.session.width",
     "COMMIT_LENGTH_WIDTH": "Commit.commitLength.width", "COUNT_WIDTH": "Count.reply.count.width", "STATE_WIDTH": "Stat.reply.state.width, SessionStat.reply.state.width",
@@ -84,8 +84,8 @@ NUMBERS = {
     "SLOTS": "slot_count, state::SLOTS", "NAME_SIZE": "name_size, state::NAME_SIZE", "SLOT_SIZE": "slot_size, state::SLOT_SIZE",
     "BLOB_IMAGE": "image_blob, flash_number.Image", "BLOB_HASH": "hash_blob, flash_number.Hash", "BLOB_VERIFY": "verify_blob, flash_number.Verify",
     "BLOB_UPDATE": "update_blob, flash_number.Update", "BLOB_CLEANUP": "cleanup_blob, flash_number.Cleanup",
-    "JOB_UNTRIED": "untried, state::Status::UNTRIED", "JOB_RUNNING": "running, state::Status::RUNNING", "JOB_SUCCEEDED": "succeeded, state::Status::SUCCEEDED",
-    "JOB_FAILED": "failed, state::Status::FAILED", "VERDICT_FAILED": "job_failed, capi::JOB_FAILED", "VERDICT_GOOD": "job_good, capi::JOB_GOOD",
+    "JOB_UNTRIED": "untried, state::Status::Untried", "JOB_RUNNING": "running, state::Status::Running", "JOB_SUCCEEDED": "succeeded, state::Status::Succeeded",
+    "JOB_FAILED": "failed, state::Status::Failed", "VERDICT_FAILED": "job_failed, capi::JOB_FAILED", "VERDICT_GOOD": "job_good, capi::JOB_GOOD",
     "FILE_BASE": "base_field, store_file::STORE_BASE", "FILE_BLOB": "blob_field, store_file::STORE_BLOB", "FILE_BLOB_NAME": "name_field, store_file::BLOB_NAME",
     "FILE_BLOB_DATA": "data_field, store_file::BLOB_DATA", "PART_SIZE": "buffer_size, store_writer::BUFFER_SIZE", "PARTS_MOST": "1 + slot_count, run_store::PARTS_MOST",
     "CONFIG_ENTRIES": "entry_most, config_profile::ENTRY_MOST", "ENTRY_FIELDS": "field_count / entry_most, row_of.length",
@@ -167,13 +167,16 @@ def told_by(definition, fields, result, known):
 
 
 def code_values():
-    """crate::NAME or crate::Type::NAME -> value of each constant of the code that is a number or a text."""
+    """crate::NAME or crate::Type::NAME -> value of each constant of the code that is a number or a text; crate::Type::Case -> the number of an enum's case."""
     known = {}
     for crate in CODE:
         scope = ""
         for line in text_of(f"{crate}/src/lib.rt").split("\n"):
             opened, constant = re.match(r"impl (\w+) \{", line), re.match(r" *(?:pub )?const (\w+): [^=]+ = (.+);$", line)
             scope = f"{opened.group(1)}::" if opened else "" if line == "}" else scope
+            case = re.match(r" +(\w+::\w+) => (\d+),$", line)
+            if case:
+                known[f"{crate}::{case.group(1)}"] = int(case.group(2))
             said = constant and re.fullmatch(r"(?:\w+\()?(0x[0-9a-fA-F]+|\d+)\)?|\*b\"(.*)\"", constant.group(2))
             if said:
                 known[f"{crate}::{scope}{constant.group(1)}"] = int(said.group(1), 0) if said.group(1) else said.group(2).encode("ascii")

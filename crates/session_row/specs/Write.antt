@@ -9,7 +9,6 @@ use Rattle.laws.specs.Ranges.{block}
 use Rattle.protocol.specs.Numbers.{row_words, out_of_range, too_long}
 use Rattle.state.specs.State.{Row}
 use Rattle.protocol.specs.declared.Code.{Code}
-use Rattle.response_types.specs.declared.Said.{Said}
 use Rattle.response_types.specs.declared.Said.TheVariants.{Done}
 use Rattle.response_types.specs.After.{Outcome}
 use Rattle.rules.specs.Command.{Out, refuse, placed}

@@ -8,7 +8,6 @@ ghost use Rattle.session_row.specs.Write.{written, region_by};
 
 use memory_copy::copy_at;
 use protocol::{BlobState, Code, Flags};
-use state::Status;
 use state::row::Entry;
 
 // A Write into a region of `capacity` bytes that starts at `start` and has `len` bytes so far: the length after it, or a refusal, which changes nothing.

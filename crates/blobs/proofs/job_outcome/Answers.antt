@@ -1,7 +1,6 @@
 -- `blobs::job_outcome` meets its contract: refused where the state is not sound, or taken by the flash session. Assumes nothing.
-use Rattle.std.proofs.Common.{ap, sym, ◌∙◌, [], true}
+use Rattle.std.proofs.Common.{sym, ◌∙◌, [], true}
 use Rattle.std.proofs.lemmas.Result.{err_from_is_err_and}
-use Rattle.std.specs.Prelude.{not}
 use Rattle.blobs.proofs.Outcome.{no-outcome, outcome-taken, said-code, refused-code}
 use Rattle.state.specs.Agree.{sound-of-test}
 use Rattle.state.specs.State.{state_of}

@@ -1,5 +1,5 @@
 -- `flash_at`: the name sought is number `left` of those that are left.
-use Rattle.std.proofs.Common.{◌≡◌, ◌+◌, ◌-◌}
+use Rattle.std.proofs.Common.{◌≡◌}
 use Rattle.name_list.specs.Listed.{behind, flash_from, flash_at}
 use Rattle.name_list.proofs.flash_at.Given as goal
 

@@ -1,6 +1,5 @@
 -- `stat_flash`: the name is not listed, has no session, or has one.
 use Rattle.std.proofs.Common.{ap, sym, ◌∙◌, ℕ}
-use Rattle.std.specs.Prelude.{not}
 use Rattle.lookup.specs.Search.{row_in, row_low}
 use Rattle.name_stat.specs.Laws.{flash-hidden, flash-closed, flash-open}
 use Rattle.protocol.specs.Frame.{reply, stat_fields}

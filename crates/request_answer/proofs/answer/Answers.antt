@@ -1,5 +1,5 @@
 -- `answer` meets its contract: refused where the caller's test failed, else served. Assumes nothing.
-use Rattle.std.proofs.Common.{ap, ◌≡◌, sym, ◌∙◌, true, rules}
+use Rattle.std.proofs.Common.{◌≡◌, sym, ◌∙◌, true, rules}
 use Rattle.request_answer.proofs.Served.{not-able, is-sound, has-size, answers}
 use Rattle.request_answer.specs.Call.{answerable}
 use Rattle.state.specs.Memory.{state_in}

@@ -1,6 +1,5 @@
 -- `commit`: refused for its length, to image and hash; verify, update, cleanup.
 use Rattle.std.proofs.Common.{◌≡◌, ap, sym, ◌∙◌, cond, List, ℕ, Bool, true, false, Ok}
-use Rattle.std.specs.Prelude.{not}
 use Rattle.laws.specs.Ranges.{block}
 use Rattle.protocol.specs.Frame.{done}
 use Rattle.protocol.specs.Numbers.{row_words}
@@ -9,7 +8,6 @@ use Rattle.session_flash.proofs.Laws.{holds_bytes, bytes-held, commit-cc, commit
 use Rattle.state.specs.Entry.{words_of, lifted}
 use Rattle.state.specs.State.{State, state_of}
 use Rattle.state.specs.declared.Control.{Control}
-use Rattle.state.specs.declared.Phase.{Phase}
 use Rattle.state.specs.declared.Phase.TheVariants.{Idle, Uploading}
 use Rattle.state.specs.declared.row.Entry.{Entry}
 use Rattle.rules.specs.Command.{commit}

@@ -1,5 +1,5 @@
 -- `write`: refused to a session without WRITE; else what `write_region` comes to.
-use Rattle.std.proofs.Common.{ap, sym, ◌∙◌, List, ℕ, arith, rules}
+use Rattle.std.proofs.Common.{ap, sym, ◌∙◌, List, ℕ, arith}
 use Rattle.std.proofs.lemmas.Result.{err_from_is_err_and}
 use Rattle.protocol.proofs.Sizes.{slot-size}
 use Rattle.session_store.proofs.Laws.{write-d5, write-refused, write-accepted}
