@@ -1,25 +1,21 @@
 -- What each subcommand asks, from what the reader found in the body, one law for each way. Assumes nothing.
 use mathlib.Core.Path.{◌≡◌, ap, ◌∙◌}
-use mathlib.Core.Bool.{Bool, true, false, not, cond}
+use mathlib.Core.Bool.{Bool, true, false, cond}
 use mathlib.Core.List.{List}
 use Prim.Native.Nat.{ℕ, ◌+◌, ◌-◌, ◌≤◌, ◌<◌, ◌^◌}
 use native.Mathlib.Omega.{arith}
 use lib.Dec.{eqb}
 use lib.ListN.{length, get_or, take, drop}
 use lib.Seq.{get_or-drop}
-use Rattle.laws.specs.All.{flag_true, flag-false}
-use Rattle.laws.specs.Bytes.{little, text}
+use Rattle.laws.specs.Bytes.{little}
 use Rattle.request_reader.proofs.Little.{in_rest, one, narrow}
 use Rattle.request_reader.specs.Wire.{fields_of}
 use Rattle.request_reader.specs.declared.Fields.{Fields}
 use Rattle.protocol.specs.declared.Blob.{Blob}
-use Rattle.protocol.specs.declared.Request.{Request}
 use Rattle.protocol.specs.declared.Request.TheVariants.{Enumerate, Open, Read, Write, Commit, Close, Delete, Stat, SessionStat, WriteMeta}
-use Rattle.protocol.specs.Numbers.{invalid}
-use Rattle.protocol.specs.Names.{name_form, blob_named}
 use Rattle.protocol.specs.declared.Subcommand.{Subcommand}
 use Rattle.protocol.specs.Subcommands.{command_number}
-use Rattle.protocol.specs.Decode.{refused_with, asked, with_name}
+use Rattle.protocol.specs.Decode.{asked, with_name}
 use Rattle.request_names.proofs.Names.{tail-part}
 use Rattle.request_decode.specs.declared.Widths.{Widths}
 use Rattle.request_decode.specs.Widths.{widths, widths_of, fields_in}
@@ -89,16 +85,6 @@ module _ (m : List ℕ) (f : Fields) where
   pub write-meta-is : f ≡ fields_in 10 m → WriteMeta f.first ≡ asked 10 m
   unfolding asked widths_of
   write-meta-is e = ap (λ (g : Fields). WriteMeta g.first) e ∙ simp in_rest
-
--- ---- names
-pub bad-name : (at : ℕ) (m : List ℕ) (f : Blob → Request) (r : Bool) → r ≡ name_form (drop at m) → not r ≡ true → refused_with invalid ≡ with_name at m f
-unfolding with_name
-bad-name at m f r e h = rw (flag-false e h)
-
-pub good-name : (at : ℕ) (m : List ℕ) (f : Blob → Request) (r : Bool) (b : Blob) → r ≡ name_form (drop at m) → not r ≡ false
-    → b ≡ blob_named at (text (drop at m)) → f b ≡ with_name at m f
-unfolding with_name
-good-name at m f r b e h p = rw (flag_true e h, p)
 
 module _ (m : List ℕ) (f : Fields) where
   pub open_is : f ≡ fields_in 2 m → with_name (4 + f.rest) m (λ (b : Blob). Open f.first b) ≡ asked 2 m
