@@ -49,7 +49,7 @@ def without_code(text):
     kept = []
     inside = None
     for line in text.split("\n"):
-        head = re.match(r"( *)(?:pub )?(?:extern \"C\" )?fn \w", line)
+        head = re.match(r"( *)(?:(?:pub )?(?:extern \"C\" )?fn \w|impl\b.* for \w.*\{$)", line)  # a trait's functions go with their block
         if inside is None and head:
             inside = head.group(1)
         if inside is None:
