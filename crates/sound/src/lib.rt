@@ -9,7 +9,8 @@ ghost use Rattle.state.specs.Soundness.{lent_right, values_fit, flash_fits, is_s
 use sound_rows::{all_apart, rows_ok};
 use sound_slots::{all_names_apart, slots_ok};
 use state::{
-    Control, HASH_SIZE, IMAGE_SIZE, Memory, NAME_SIZE, ROW_WORDS, ROWS, SIXTEEN_BITS, SLOT_SIZE, SLOTS,
+    Control, HASH_SIZE, IMAGE_SIZE, Memory, NAME_SIZE, ROW_WORDS, ROWS, SIXTEEN_BITS, SLOT_SIZE,
+    SLOTS,
 };
 
 // Lent lengths are exact. Those of the two arrays of `control` need no test: their type gives them.

@@ -76,15 +76,16 @@ pub fn about<'a, T, W>(what: &'a [u8], done: Result<T, W>) -> Result<T, Failure<
 pub fn fail<R: Alloc, W: Display + Drop>(
     rt: &R,
     errors: &impl Print,
-    program: &str,
+    program: &[u8],
     failure: Failure<W>,
 ) {
+    let _ = errors.write_all(program);
     match failure {
         Failure::Usage(usage) => {
-            let _ = println!(errors; "{program}: {usage} (--help says more)");
+            let _ = println!(errors; ": {usage} (--help says more)");
         }
         Failure::Of(what, why) => {
-            let _ = print!(errors; "{program}: ");
+            let _ = print!(errors; ": ");
             let _ = errors.write_all(what);
             let _ = print!(errors; ": ");
             let _ = match format!(in rt.alloc(); "{why}") {

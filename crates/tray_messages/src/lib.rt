@@ -27,15 +27,24 @@ pub struct Done {
     pub len: usize,
 }
 
-// A result: the length of what was written, above the code 00; or the code of a refusal.
-pub fn packed(sent: Result<usize, Code>) -> u32
+// A result: a completion code, and the length of what was written.
+pub fn packed(code: Code, len: usize) -> u32
+    requires { len < length_limit }
+    ensures value { result ≡ code.0 + code_unit * len }
+    ensures code_unit_value { (result % code_unit ≡ code.0) × (result / code_unit ≡ len) }
+{
+    u32::from(code.0) + CODE_UNIT * (len as u32)
+}
+
+// The result of what was sent: its length above the code 00, or the code of a refusal and no length.
+pub fn packed_sent(sent: Result<usize, Code>) -> u32
     requires { length_of sent < length_limit }
     ensures value { result ≡ code_of sent + code_unit * length_of sent }
     ensures code_unit_value { (result % code_unit ≡ code_of sent) × (result / code_unit ≡ length_of sent) }
 {
     match sent {
-        Ok(len) => CODE_UNIT * (len as u32),
-        Err(code) => u32::from(code.0),
+        Ok(len) => packed(Code::SUCCESS, len),
+        Err(code) => packed(code, 0),
     }
 }
 
@@ -91,7 +100,7 @@ pub fn answer_all(
             break;
         };
         let sent = answer_at(records, clock, start, len, memory, responses, end);
-        results[done] = packed(sent);
+        results[done] = packed_sent(sent);
         at = next;
         done += 1;
         end += sent.unwrap_or(0);

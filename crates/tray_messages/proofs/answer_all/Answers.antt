@@ -52,8 +52,8 @@ answer_at-sent-requires c =
     let p = c.loop-done.invariant.1 in
     record { sound = p.still-sound; in_bounds = ((found_in (record-found (goal.at.answer_at-sent-requires c).In-Whole)).0, rw p.as_long (room (goal.at.answer_at-sent-requires c).In-Whole)) }
 
-pub packed-requires : goal.packed-requires
-packed-requires c = omega (arith, short (goal.at.packed-requires c).After-answer_at-sent)
+pub packed_sent-requires : goal.packed_sent-requires
+packed_sent-requires c = omega (arith, short (goal.at.packed_sent-requires c).After-answer_at-sent)
 
 pub offset_bounds-results-done : goal.offset_bounds-results-done
 offset_bounds-results-done c = omega (arith, few (goal.at.offset_bounds-results-done c).In-Whole)
@@ -83,7 +83,7 @@ loop-done-preserved c =
     let l = c.loop-done in (
       same-then l.invariant.0 c.answer_at-sent.ensures.same_memory,
       rw (c.unwrap_or-end.ensures ∙ taken c.answer_at-sent.result) (goes_to _ _ _ _ c.requires.results_len _ _ _ _ _ _ l.invariant.1 (record-found (goal.at.loop-done-preserved c).In-Whole)
-          (few (goal.at.loop-done-preserved c).In-Whole) (room (goal.at.loop-done-preserved c).In-Whole) c.answer_at-sent.ensures.served c.packed.ensures.value),
+          (few (goal.at.loop-done-preserved c).In-Whole) (room (goal.at.loop-done-preserved c).In-Whole) c.answer_at-sent.ensures.served c.packed_sent.ensures.value),
     )
 
 pub returns-after-loop-done-clause-answered : goal.returns-after-loop-done-clause-answered
