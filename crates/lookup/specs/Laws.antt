@@ -9,7 +9,7 @@ use Rattle.std.specs.Int.Count.{ones, ones_in, count_trailing_zeros}
 use Rattle.std.proofs.Math.ListN.{get_or-eq_default, get_or-append}
 use Rattle.std.proofs.lemmas.List.{get_or-replicate}
 use Rattle.laws.specs.All.{all, and-true}
-use Rattle.laws.specs.Ranges.{part, block, length_part}
+use Rattle.laws.specs.Ranges.{block}
 use Rattle.laws.specs.Bits.{bit, put_bit, bit-lt}
 use Rattle.laws.specs.Bytes.{same, padded}
 use Rattle.laws.specs.Masks.{ones-more, ones-in}
@@ -137,10 +137,9 @@ padded-at n i l h = get_or-take n (l ++ replicate n 0) i 0 h ∙ go (dec_lt i (l
         ∙ get_or-replicate n (i - length l) 0 0 (omega arith)
         ∙ sym (get_or-eq_default l 0 {n = i} (omega arith))
 
--- behind the part's end there are the padding's zeros
-pub padded-zero : (n i start len : ℕ) (m : List ℕ) → start + len ≤ length m → i < n → len ≤ i → ◌≡◌ {A = ℕ} 0 (get_or (padded n (part start len m)) i 0)
-padded-zero n i start len m fits l h =
-    sym (padded-at n i (part start len m) l ∙ get_or-eq_default (part start len m) 0 {n = i} (omega (arith, length_part start len m fits)))
+-- behind the list's end there are the padding's zeros
+pub padded-zero : (n i : ℕ) (l : List ℕ) → i < n → length l ≤ i → ◌≡◌ {A = ℕ} 0 (get_or (padded n l) i 0)
+padded-zero n i l h e = sym (padded-at n i l h ∙ get_or-eq_default l 0 {n = i} e)
 
 -- ---- the identifier: the search stops at one that no session has, goes on at another, and takes the one behind them
 module _ (s : State) where

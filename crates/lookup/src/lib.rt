@@ -1,9 +1,9 @@
 // What is looked up: the row of a session, the slot of a store name, the set bit of a number, the identifier for a new session. (Free places: `state::mask::lowest_free`.)
 #![tactic(auto)]
 
-ghost use Rattle.std.specs.Prelude.{◌≡◌, ◌≢◌, IfErr, ℕ, ◌+◌, ◌*◌, ◌≤◌, ◌<◌, length, get_or};
+ghost use Rattle.std.specs.Prelude.{◌≡◌, ◌≢◌, IfErr, ℕ, ◌<◌, get_or};
 ghost use Rattle.std.specs.Int.Count.{ones};
-ghost use Rattle.laws.specs.Ranges.{part, block};
+ghost use Rattle.laws.specs.Ranges.{block};
 ghost use Rattle.laws.specs.Bytes.{padded, same};
 ghost use Rattle.protocol.specs.Numbers.{success, row_count, slot_count, name_size, sixteen_bits};
 ghost use Rattle.state.specs.declared.row.Wanted.TheVariants.{Id};
@@ -104,43 +104,37 @@ pub fn find_session(identifier: u32, rows: u32, table: &[u32]) -> Lookup
     }
 }
 
-// Byte i of the padded name that stands in the message.
-fn padded_at(message: &[u8], start: usize, len: usize, i: usize) -> u8
-    requires { (start + len ≤ length message.now) × (i < name_size) }
-    ensures { result ≡ get_or (padded name_size (part start len message.now)) i 0 }
+// Byte i of the padded name.
+fn padded_at(name: &[u8], i: usize) -> u8
+    requires { i < name_size }
+    ensures { result ≡ get_or (padded name_size name.now) i 0 }
 {
-    if i < len { message[start + i] } else { 0 }
+    if i < name.len() { name[i] } else { 0 }
 }
 
-// Slot k's name field is the padded name that stands in the message: every byte counts, the zeros behind the name too.
-fn same_name(names: &[u8], k: usize, message: &[u8], start: usize, len: usize) -> bool
-    requires { NamesLent names.now × ((k < slot_count) × (start + len ≤ length message.now)) }
-    ensures { result ≡ same ((block name_size k).get names.now) (padded name_size (part start len message.now)) }
+// Slot k's name field is the padded name: every byte counts, the zeros behind the name too.
+fn same_name(names: &[u8], k: usize, name: &[u8]) -> bool
+    requires { NamesLent names.now × (k < slot_count) }
+    ensures { result ≡ same ((block name_size k).get names.now) (padded name_size name.now) }
 {
     let at = k * NAME_SIZE;
     let mut ok = true;
     for i in 0..NAME_SIZE {
         let held = names[at + i];
-        ok = ok & (held == padded_at(message, start, len, i));
+        ok = ok & (held == padded_at(name, i));
     }
     ok
 }
 
 // The used slot that holds the name: only used slots are visited, as rows are.
-pub fn find_name(
-    names: &[u8],
-    slots: u32,
-    message: &[u8],
-    start: usize,
-    len: usize,
-) -> Option<usize>
-    requires { NamesLent names.now × (start + len ≤ length message.now) }
-    ensures { FoundName result (part start len message.now) slots names.now }
+pub fn find_name(names: &[u8], slots: u32, name: &[u8]) -> Option<usize>
+    requires { NamesLent names.now }
+    ensures { FoundName result name.now slots names.now }
 {
     let mut left = slots % SIXTEEN_BITS;
     while left != 0 {
         let k = u32::trailing_zeros(left) as usize;
-        if same_name(names, k, message, start, len) {
+        if same_name(names, k, name) {
             return Some(k);
         }
         left = clear_lowest(left);

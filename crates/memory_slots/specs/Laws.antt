@@ -1,9 +1,9 @@
 -- Whole blocks. Assumes nothing.
-use Rattle.std.specs.Prelude.{◌≡◌, List, ◌++◌, ℕ, ◌+◌, ◌*◌, ◌-◌, ◌≤◌, length, take, drop, replicate}
+use Rattle.std.specs.Prelude.{◌≡◌, List, ℕ, ◌+◌, ◌*◌, ◌-◌, ◌≤◌, length, take, drop, replicate}
 use Rattle.std.proofs.Common.{sym, ◌∙◌, ap, arith, take_all, take-take}
 use Rattle.std.proofs.lemmas.List.{length-replicate}
 use Rattle.std.proofs.lemmas.List.Edits.{sets}
-use Rattle.laws.specs.Ranges.{part, block, length_part, sets-append}
+use Rattle.laws.specs.Ranges.{part, block, sets-append}
 use Rattle.laws.specs.Bytes.{padded, padded-is, padded-length}
 
 -- ---- blocks: the code knows the size n of a block as the number m
@@ -20,17 +20,10 @@ module _ (n m : ℕ) (size : n ≡ m) (k : ℕ) (l : List ℕ) where
       ∙ ap (λ (j : ℕ). sets l (k * j) (part (k * j) j s)) (sym size)
       ∙ ap (sets l (k * n)) (sym (take-take n n (drop (k * n) s) (omega arith)))
 
-  -- the j bytes of a message from `start` on, then zeros
-  pub block-named : (start j : ℕ) (message : List ℕ) → j ≤ m → start + j ≤ length message
-      → sets (sets l (k * m) (take (start + j - start) (drop start message))) (k * m + j) (replicate (m - j) 0) ≡ (block n k).put (padded n (part start j message)) l
-  block-named start j message h q =
-      let w : List ℕ = part start j message in
-      let g : start + j - start ≡ j = omega arith in
-      let e : length w ≡ j = length_part start j message q in
-      ap (λ (i : ℕ). sets (sets l (k * m) (take i (drop start message))) (k * m + j) (replicate (m - j) 0)) g
-      ∙ ap (λ (i : ℕ). sets (sets l (k * m) w) (k * m + i) (replicate (m - j) 0)) (sym e)
-      ∙ sym (sets-append w (replicate (m - j) 0) l (k * m))
-      ∙ ap (λ (i : ℕ). sets l (k * m) (w ++ replicate (m - i) 0)) (sym e)
-      ∙ ap (sets l (k * m)) (sym (padded-is m w (rw e h)))
+  -- bytes, then zeros
+  pub block-named : (w : List ℕ) → length w ≤ m → sets (sets l (k * m) w) (k * m + length w) (replicate (m - length w) 0) ≡ (block n k).put (padded n w) l
+  block-named w h =
+      sym (sets-append w (replicate (m - length w) 0) l (k * m))
+      ∙ ap (sets l (k * m)) (sym (padded-is m w h))
       ∙ ap (λ (i : ℕ). sets l (k * i) (padded i w)) (sym size)
       ∙ ap (sets l (k * n)) (sym (take_all n (padded n w) (omega (arith, padded-length n w))))

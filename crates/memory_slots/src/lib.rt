@@ -1,8 +1,8 @@
 // Work on lent memory: a slot's regions and name, a slot freed.
 #![tactic(auto)]
 
-ghost use Rattle.std.specs.Prelude.{◌≡◌, List, ℕ, ◌+◌, ◌*◌, ◌≤◌, ◌<◌, length, replicate};
-ghost use Rattle.laws.specs.Ranges.{part, block};
+ghost use Rattle.std.specs.Prelude.{◌≡◌, List, ℕ, ◌≤◌, ◌<◌, length, replicate};
+ghost use Rattle.laws.specs.Ranges.{block};
 ghost use Rattle.laws.specs.Bytes.{padded};
 ghost use Rattle.protocol.specs.Numbers.{slot_count, name_size, slot_size};
 ghost use Rattle.state.specs.declared.row.Place.TheVariants.{AtSlot};
@@ -40,26 +40,24 @@ pub fn clear_name(names: &mut [u8], k: usize)
     clear_at(names, k * NAME_SIZE, NAME_SIZE)
 }
 
-// Slot k's name becomes the len bytes that stand in the message from `start` on, padded by zeros.
-pub fn put_name(names: &mut [u8], k: usize, message: &[u8], start: usize, len: usize)
-    requires { NamesLent names.old × ((k < slot_count) × ((len ≤ name_size) × (start + len ≤ length message.now))) }
-    ensures { names.new ≡ (block name_size k).put (padded name_size (part start len message.now)) names.old }
+// Slot k's name becomes this one, padded by zeros.
+pub fn put_name(names: &mut [u8], k: usize, name: &[u8])
+    requires { NamesLent names.old × ((k < slot_count) × (length name.now ≤ name_size)) }
+    ensures { names.new ≡ (block name_size k).put (padded name_size name.now) names.old }
 {
     let at = k * NAME_SIZE;
-    let end = start + len;
-    copy_at(names, at, &message[start..end]);
-    clear_at(names, at + len, NAME_SIZE - len)
+    copy_at(names, at, name);
+    clear_at(names, at + name.len(), NAME_SIZE - name.len())
 }
 
-// Slot k's region of dst becomes the len bytes that stand in src from `start` on, padded by zeros.
-pub fn put_region(dst: &mut [u8], k: usize, src: &[u8], start: usize, len: usize)
-    requires { RegionsLent dst.old × ((k < slot_count) × ((len ≤ slot_size) × (start + len ≤ length src.now))) }
-    ensures { dst.new ≡ (block slot_size k).put (padded slot_size (part start len src.now)) dst.old }
+// Slot k's region of dst becomes these bytes, padded by zeros.
+pub fn put_region(dst: &mut [u8], k: usize, bytes: &[u8])
+    requires { RegionsLent dst.old × ((k < slot_count) × (length bytes.now ≤ slot_size)) }
+    ensures { dst.new ≡ (block slot_size k).put (padded slot_size bytes.now) dst.old }
 {
     let at = k * SLOT_SIZE;
-    let end = start + len;
-    copy_at(dst, at, &src[start..end]);
-    clear_at(dst, at + len, SLOT_SIZE - len)
+    copy_at(dst, at, bytes);
+    clear_at(dst, at + bytes.len(), SLOT_SIZE - bytes.len())
 }
 
 // Slot k becomes free: its name, its marks, its lengths and both regions are zeroed.

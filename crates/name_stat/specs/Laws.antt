@@ -1,10 +1,10 @@
 -- The ways through Stat. Assumes nothing.
-use Rattle.std.specs.Prelude.{◌≡◌, Bool, true, false, cond, ℕ, eqb, get_or}
+use Rattle.std.specs.Prelude.{◌≡◌, Bool, true, false, cond, ℕ, ◌+◌, ◌-◌, eqb, get_or, take, drop}
 use Rattle.std.proofs.Math.Path.{sym, ap}
 use Rattle.std.proofs.Common.{◌∙◌}
 use mathlib.Core.List.{List}
 use Rattle.std.proofs.Math.Option.{Option, none, some}
-use Rattle.laws.specs.Ranges.{part, block}
+use Rattle.laws.specs.Ranges.{lent-part, block}
 use Rattle.laws.specs.Bits.{bit}
 use Rattle.protocol.specs.Numbers.{row_words, not_found, state_committed}
 use Rattle.protocol.specs.Names.{kind_of, flash_number}
@@ -44,24 +44,29 @@ module _ (r : ℕ) (s : State) (e : Entry) (words : (block row_words r).get s.se
   flash-stat p = row-stat AtFlash p
 
 -- ---- a store name
-module _ (start len : ℕ) (m : List ℕ) (s : State) where
+module _ (n : List ℕ) (s : State) where
   -- a session on slot k, or none
   abbrev held : (k : ℕ) → Option ℕ → Reply
   held k o = whether o (λ (r : ℕ). reply (stat_row r s)) (reply (stat_fields state_committed (slot_at k s).committed_len))
 
-  named : (o : Option ℕ) → slot_named (part start len m) s ≡ o → some_or o (refused not_found) (λ (k : ℕ). held k (row_found (OnBlob k) s)) ≡ stat_blob (Store start len) m s
-  unfolding stat_blob stat_name
+  named : (o : Option ℕ) → slot_named n s ≡ o → some_or o (refused not_found) (λ (k : ℕ). held k (row_found (OnBlob k) s)) ≡ stat_name n s
+  unfolding stat_name
   named o e = ap (λ (x : Option ℕ). some_or x (refused not_found) (λ (k : ℕ). held k (row_found (OnBlob k) s))) (sym e)
 
-  pub store-none : slot_named (part start len m) s ≡ none → refused not_found ≡ stat_blob (Store start len) m s
+  pub store-none : slot_named n s ≡ none → refused not_found ≡ stat_name n s
   store-none e = named none e
 
-  module _ (k : ℕ) (e : slot_named (part start len m) s ≡ some k) where
-    pub store-closed : row_found (OnBlob k) s ≡ none → reply (stat_fields state_committed (get_or s.store.committed_lens k 0)) ≡ stat_blob (Store start len) m s
+  module _ (k : ℕ) (e : slot_named n s ≡ some k) where
+    pub store-closed : row_found (OnBlob k) s ≡ none → reply (stat_fields state_committed (get_or s.store.committed_lens k 0)) ≡ stat_name n s
     store-closed f = ap (held k) (sym f) ∙ named (some k) e
 
-    pub store-open : (r : ℕ) → row_found (OnBlob k) s ≡ some r → reply (stat_row r s) ≡ stat_blob (Store start len) m s
+    pub store-open : (r : ℕ) → row_found (OnBlob k) s ≡ some r → reply (stat_row r s) ≡ stat_name n s
     store-open r f = ap (held k) (sym f) ∙ named (some k) e
+
+-- it is lent from the message
+pub store-lent : (start len : ℕ) (m : List ℕ) (s : State) → stat_name (take (start + len - start) (drop start m)) s ≡ stat_blob (Store start len) m s
+unfolding stat_blob
+store-lent start len m s = ap (λ (n : List ℕ). stat_name n s) (lent-part start len m)
 
 -- ---- a flash name
 module _ (k : FlashKind) (m : List ℕ) (s : State) where

@@ -1,16 +1,16 @@
 // Stat.
 #![tactic(auto)]
 
-ghost use Rattle.std.specs.Prelude.{◌≡◌, Ok, List, ℕ, ◌+◌, ◌<◌, ◌≤◌, length};
+ghost use Rattle.std.specs.Prelude.{◌≡◌, Ok, List, ℕ, ◌<◌};
 ghost use Rattle.protocol.specs.Numbers.{row_count};
 ghost use Rattle.protocol.specs.Frame.{reply};
 ghost use Rattle.protocol.specs.Inside.{BlobInside};
-ghost use Rattle.protocol.specs.declared.Blob.TheVariants.{Store, Flash};
+ghost use Rattle.protocol.specs.declared.Blob.TheVariants.{Flash};
 ghost use Rattle.state.specs.State.{state_of};
 ghost use Rattle.state.specs.Lent.{TableLent, NamesLent};
 ghost use Rattle.rules.specs.Session.{stat_row};
 ghost use Rattle.response_types.specs.After.{reply_of};
-ghost use Rattle.rules.specs.Named.{stat_blob};
+ghost use Rattle.rules.specs.Named.{stat_blob, stat_name};
 
 use lookup::{find_name, find_row};
 use name_flash::flash_listed;
@@ -36,19 +36,12 @@ fn stat_row(control: Control, table: &[u32], r: usize) -> Said
     Said::Stat { state, size }
 }
 
-// Stat of a store name, which stands in the message: an open one as its session sees it, else committed with the committed size.
-fn stat_store(
-    start: usize,
-    len: usize,
-    message: &[u8],
-    control: Control,
-    table: &[u32],
-    names: &[u8],
-) -> Result<Said, Code>
-    requires { (start + len ≤ length message.now) × (TableLent table.now × NamesLent names.now) }
-    ensures { (committed staged image hash answer : List ℕ) → reply_of result answer ≡ stat_blob (Store start len) message.now (state_of control table.now names.now committed staged image hash) }
+// Stat of a store name: an open one as its session sees it, else committed with the committed size.
+fn stat_store(name: &[u8], control: Control, table: &[u32], names: &[u8]) -> Result<Said, Code>
+    requires { TableLent table.now × NamesLent names.now }
+    ensures { (committed staged image hash answer : List ℕ) → reply_of result answer ≡ stat_name name.now (state_of control table.now names.now committed staged image hash) }
 {
-    let Some(k) = find_name(names, control.slots, message, start, len) else {
+    let Some(k) = find_name(names, control.slots, name) else {
         return Err(Code::NOT_FOUND);
     };
     let Some(r) = find_row(table, control.rows, Wanted::OnBlob(k as u32)) else {
@@ -89,7 +82,12 @@ pub fn stat(
     ensures { (committed staged image hash answer : List ℕ) → reply_of result answer ≡ stat_blob blob message.now (state_of control table.now names.now committed staged image hash) }
 {
     match blob {
-        Blob::Store { start, len } => stat_store(start, len, message, control, table, names),
+        Blob::Store { start, len } => stat_store(
+            &message[start..start + len],
+            control,
+            table,
+            names,
+        ),
         Blob::Flash(kind) => stat_flash(kind, control, table),
         Blob::Base => Ok(Said::Stat { state: 0, size: 0 }),
         Blob::Unknown => Err(Code::NOT_FOUND),

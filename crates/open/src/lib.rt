@@ -34,9 +34,10 @@ fn open_swept(
     ensures { (answer : List ℕ) → after_said result control.new table.new names.new committed.new staged.new image.new hash.new answer ≡ open_blob blob flags clock message.now (state_of control.old table.old names.old committed.old staged.old image.old hash.old) }
 {
     match blob {
-        Blob::Store { start, len } => open_store(
-            start, len, flags, clock, message, control, table, names, committed, staged,
-        ),
+        Blob::Store { start, len } => {
+            let name = &message[start..start + len];
+            open_store(name, flags, clock, control, table, names, committed, staged)
+        }
         Blob::Flash(kind) => open_flash(kind, flags, clock, control, table, image, hash),
         Blob::Base | Blob::Unknown => Err(Code::NOT_FOUND),
     }

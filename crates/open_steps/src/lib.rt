@@ -1,8 +1,7 @@
 // The steps of Open: the row of a new session, and the slot of a new or a held name.
 #![tactic(auto)]
 
-ghost use Rattle.std.specs.Prelude.{◌≡◌, Ok, List, ℕ, ◌+◌, ◌<◌, ◌≤◌, length};
-ghost use Rattle.laws.specs.Ranges.{part};
+ghost use Rattle.std.specs.Prelude.{◌≡◌, Ok, List, ℕ, ◌<◌, ◌≤◌, length};
 ghost use Rattle.protocol.specs.Numbers.{row_count, slot_count, name_most, sixteen_bits};
 ghost use Rattle.state.specs.declared.row.Place.TheVariants.{AtSlot};
 ghost use Rattle.state.specs.State.{state_of, in_body};
@@ -46,18 +45,11 @@ pub fn open_row(
 }
 
 // Slot k takes a new name. An unused slot of a sound state is zero already, so nothing is cleared.
-pub fn new_slot(
-    k: usize,
-    message: &[u8],
-    start: usize,
-    len: usize,
-    control: &mut Control,
-    names: &mut [u8],
-)
-    requires { (k < slot_count) × (((start + len ≤ length message.now) × (len ≤ name_most)) × NamesLent names.old) }
-    ensures { (table committed staged image hash : List ℕ) → state_of control.new table names.new committed staged image hash ≡ (in_body (AtSlot k)).put (named (part start len message.now) (slot_at k (state_of control.old table names.old committed staged image hash))) (state_of control.old table names.old committed staged image hash) }
+pub fn new_slot(k: usize, name: &[u8], control: &mut Control, names: &mut [u8])
+    requires { (k < slot_count) × ((length name.now ≤ name_most) × NamesLent names.old) }
+    ensures { (table committed staged image hash : List ℕ) → state_of control.new table names.new committed staged image hash ≡ (in_body (AtSlot k)).put (named name.now (slot_at k (state_of control.old table names.old committed staged image hash))) (state_of control.old table names.old committed staged image hash) }
 {
-    put_name(names, k, message, start, len);
+    put_name(names, k, name);
     control.slots = set_bit(control.slots, k);
 }
 

@@ -1,8 +1,7 @@
 // Open of a store name, after the sweep. A refusal changes nothing.
 #![tactic(auto)]
 
-ghost use Rattle.std.specs.Prelude.{◌≡◌, List, ℕ, ◌+◌, ◌<◌, ◌≤◌, length};
-ghost use Rattle.laws.specs.Ranges.{part};
+ghost use Rattle.std.specs.Prelude.{◌≡◌, List, ℕ, ◌<◌, ◌≤◌, length};
 ghost use Rattle.protocol.specs.Numbers.{slot_count, name_most, sixteen_bits};
 ghost use Rattle.state.specs.State.{store_of, state_of};
 ghost use Rattle.state.specs.Lent.{TableLent, NamesLent, RegionsLent};
@@ -22,23 +21,21 @@ use state::Control;
 use state::mask::lowest_free;
 use state::row::{Wanted, store_flags, writes_with};
 
-// A new name, which stands in the message, takes the lowest free row and slot.
+// A new name takes the lowest free row and slot.
 fn open_new(
-    start: usize,
-    len: usize,
+    name: &[u8],
     flags: u16,
     clock: u32,
-    message: &[u8],
     control: &mut Control,
     table: &mut [u32],
     names: &mut [u8],
 ) -> Result<Said, Code>
-    requires { ((start + len ≤ length message.now) × (len ≤ name_most)) × ((control.old.next < sixteen_bits) × (TableLent table.old × NamesLent names.old)) }
-    ensures { (committed staged image hash answer : List ℕ) → FreeZero (store_of control.old names.old committed staged) → after_said result control.new table.new names.new committed staged image hash answer ≡ open_new (free_row_in (state_of control.old table.old names.old committed staged image hash)) (free_slot_in (state_of control.old table.old names.old committed staged image hash)) (part start len message.now) flags clock (state_of control.old table.old names.old committed staged image hash) }
+    requires { (length name.now ≤ name_most) × ((control.old.next < sixteen_bits) × (TableLent table.old × NamesLent names.old)) }
+    ensures { (committed staged image hash answer : List ℕ) → FreeZero (store_of control.old names.old committed staged) → after_said result control.new table.new names.new committed staged image hash answer ≡ open_new (free_row_in (state_of control.old table.old names.old committed staged image hash)) (free_slot_in (state_of control.old table.old names.old committed staged image hash)) name.now flags clock (state_of control.old table.old names.old committed staged image hash) }
 {
     let r = lowest_free(control.rows).ok_or(Code::NO_ROOM)?;
     let k = lowest_free(control.slots).ok_or(Code::NO_ROOM)?;
-    new_slot(k, message, start, len, control, names);
+    new_slot(k, name, control, names);
     Ok(open_row(r, k as u32, flags, 0, clock, control, table))
 }
 
@@ -63,30 +60,28 @@ fn open_held(
     Ok(open_row(r, k as u32, flags, 1, clock, control, table))
 }
 
-// Open of a store name, which stands in the message: flags (CC), absence (CB), busy (C0), row, then slot (C4).
+// Open of a store name: flags (CC), absence (CB), busy (C0), row, then slot (C4).
 pub fn open_store(
-    start: usize,
-    len: usize,
+    name: &[u8],
     flags: u16,
     clock: u32,
-    message: &[u8],
     control: &mut Control,
     table: &mut [u32],
     names: &mut [u8],
     committed: &mut [u8],
     staged: &mut [u8],
 ) -> Result<Said, Code>
-    requires { ((start + len ≤ length message.now) × (len ≤ name_most)) × ((control.old.next < sixteen_bits) × (TableLent table.old × (NamesLent names.old × (RegionsLent committed.old × (RegionsLent staged.old × FreeZero (store_of control.old names.old committed.old staged.old)))))) }
-    ensures { (image hash answer : List ℕ) → after_said result control.new table.new names.new committed.new staged.new image hash answer ≡ open_store (part start len message.now) flags clock (state_of control.old table.old names.old committed.old staged.old image hash) }
+    requires { (length name.now ≤ name_most) × ((control.old.next < sixteen_bits) × (TableLent table.old × (NamesLent names.old × (RegionsLent committed.old × (RegionsLent staged.old × FreeZero (store_of control.old names.old committed.old staged.old)))))) }
+    ensures { (image hash answer : List ℕ) → after_said result control.new table.new names.new committed.new staged.new image hash answer ≡ open_store name.now flags clock (state_of control.old table.old names.old committed.old staged.old image hash) }
 {
     if !store_flags(flags as u32) {
         return Err(Code::INVALID);
     }
-    if let Some(k) = find_name(names, control.slots, message, start, len) {
+    if let Some(k) = find_name(names, control.slots, name) {
         return open_held(k, flags, clock, control, table, committed, staged);
     }
     if !writes_with(flags as u32) {
         return Err(Code::NOT_FOUND);
     }
-    open_new(start, len, flags, clock, message, control, table, names)
+    open_new(name, flags, clock, control, table, names)
 }

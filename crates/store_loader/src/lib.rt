@@ -73,13 +73,12 @@ fn fill_slot(
     ensures { (table staged image hash : List ℕ) → staged ≡ replicate (slot_count * slot_size) 0 → state_of control.new table names.new committed.new staged image hash ≡ (in_body (AtSlot k)).put (slot_with (scan_at file.now blob)) (state_of control.old table names.old committed.old staged image hash) }
 {
     let name = last_field(file, blob.start, blob.next, BLOB_NAME);
-    put_name(names, k, name, 0, name.len());
+    put_name(names, k, name);
     let scan = last_field(file, blob.start, blob.next, BLOB_DATA);
-    let len = scan.len();
-    put_region(committed, k, scan, 0, len);
+    put_region(committed, k, scan);
     control.slots = set_bit(control.slots, k);
     control.marks = set_bit(control.marks, k);
-    control.committed_len[k] = len as u32;
+    control.committed_len[k] = scan.len() as u32;
     control.staged_len[k] = 0;
 }
 

@@ -1,7 +1,6 @@
 -- `find_name`: the slots behind do not hold the name.
 use Rattle.std.proofs.Common.{sym, ◌∙◌, subst, ℕ, ◌<◌, arith}
 use Rattle.std.specs.Int.Count.{count_trailing_zeros}
-use Rattle.laws.specs.Ranges.{part}
 use Rattle.laws.specs.SetBits.{fewer-left}
 use Rattle.lookup.specs.Laws.{SlotsBehind, slots-start, next-slot-low, name-hit, name-miss, name-end}
 use Rattle.protocol.specs.Numbers.{slot_count}
@@ -9,22 +8,22 @@ use Rattle.lookup.proofs.find_name.Goals as goal
 use Rattle.lookup.proofs.find_name.Goals.{In-loop-left}
 
 low : (c : In-loop-left) → count_trailing_zeros 32 c.loop-left.left < slot_count
-low c = let a = c.args in next-slot-low ((part c.args.start c.args.len c.args.message.now)) a.slots a.names.now c.loop-left.left c.loop-left.invariant c.loop-left-test.true
+low c = let a = c.args in next-slot-low a.name.now a.slots a.names.now c.loop-left.left c.loop-left.invariant c.loop-left-test.true
 
 pub loop-left-init : goal.loop-left-init
-loop-left-init c = let a = c.args in slots-start ((part c.args.start c.args.len c.args.message.now)) a.slots a.names.now
+loop-left-init c = let a = c.args in slots-start a.name.now a.slots a.names.now
 
 pub overflow_cast-k : goal.overflow_cast-k
 overflow_cast-k c = omega (arith, low (goal.at.overflow_cast-k c).In-loop-left)
 
 pub same_name-requires : goal.same_name-requires
-same_name-requires c = let p = c.requires in (p.0, (low (goal.at.same_name-requires c).In-loop-left, p.1))
+same_name-requires c = (c.requires, low (goal.at.same_name-requires c).In-loop-left)
 
 pub returns-then-same_name : goal.returns-then-same_name
 returns-then-same_name c =
     let a = c.args in
     let l = c.loop-left in
-    record { name-found = name-hit ((part c.args.start c.args.len c.args.message.now)) a.slots a.names.now l.left l.invariant c.loop-left-test.true (sym c.same_name.ensures ∙ c.if-same_name.true) }
+    record { name-found = name-hit a.name.now a.slots a.names.now l.left l.invariant c.loop-left-test.true (sym c.same_name.ensures ∙ c.if-same_name.true) }
 
 pub loop-left-smaller : goal.loop-left-smaller
 loop-left-smaller c =
@@ -32,14 +31,14 @@ loop-left-smaller c =
 
 pub loop-left-preserved : goal.loop-left-preserved
 loop-left-preserved c =
-    let n = (part c.args.start c.args.len c.args.message.now) in
     let a = c.args in
+    let n = a.name.now in
     let l = c.loop-left in
     subst (λ (x : ℕ). SlotsBehind n a.slots a.names.now x) (sym c.clear_lowest-left.ensures)
     (name-miss n a.slots a.names.now l.left l.invariant c.loop-left-test.true (sym c.same_name.ensures ∙ c.if-same_name.false))
 
 pub returns : goal.returns
 returns c =
-    let n = (part c.args.start c.args.len c.args.message.now) in
     let a = c.args in
+    let n = a.name.now in
     record { name-found = name-end n a.slots a.names.now (subst (λ (x : ℕ). SlotsBehind n a.slots a.names.now x) c.loop-left-test.false c.loop-left.invariant) }

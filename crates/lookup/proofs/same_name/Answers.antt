@@ -2,7 +2,7 @@
 use Rattle.std.proofs.Common.{◌≡◌, sym, ◌∙◌, ap₂, ap, arith, ℕ, ◌*◌, ◌+◌, eqb, length, get_or, rules}
 use Rattle.laws.specs.All.{all_start, all-step, all_end}
 use Rattle.laws.specs.Bytes.{padded, padded-length}
-use Rattle.laws.specs.Ranges.{part, block, block-fits, get_d_part, length_part}
+use Rattle.laws.specs.Ranges.{block, block-fits, get_d_part, length_part}
 use Rattle.lookup.specs.Laws.{same_at, same-all}
 use Rattle.protocol.specs.Numbers.{name_size, slot_count}
 use Rattle.protocol.proofs.Sizes.{name-size}
@@ -32,6 +32,6 @@ pub returns : goal.returns
 returns c =
     let a = c.args in
     let f = (block name_size a.k).get a.names.now in
-    let p = padded name_size (part a.start a.len a.message.now) in
-    let e : length f ≡ name_size = length_part (a.k * name_size) name_size a.names.now (rw c.requires.0 (block-fits name_size a.k slot_count c.requires.1.0)) in
-    all_end _ 32 c.loop-i.i _ (omega arith) (omega arith) c.loop-i.invariant.1 ∙ same-all f p 32 (e ∙ name-size) (padded-length name_size (part a.start a.len a.message.now) ∙ name-size)
+    let p = padded name_size a.name.now in
+    let e : length f ≡ name_size = length_part (a.k * name_size) name_size a.names.now (rw c.requires.0 (block-fits name_size a.k slot_count c.requires.1)) in
+    all_end _ 32 c.loop-i.i _ (omega arith) (omega arith) c.loop-i.invariant.1 ∙ same-all f p 32 (e ∙ name-size) (padded-length name_size a.name.now ∙ name-size)

@@ -1,24 +1,22 @@
 -- `delete`: by what the name names.
-use Rattle.std.proofs.Common.{◌≡◌, List, ℕ, sym, ◌∙◌, ap, subst, rules, inl, inr}
+use Rattle.std.proofs.Common.{◌≡◌, List, ℕ, sym, ◌∙◌, ap, inl, inr}
 use Rattle.std.specs.Prelude.{◌⊎◌}
+use Rattle.name_delete.specs.Laws.{delete-lent}
 use Rattle.protocol.specs.Frame.{refused}
 use Rattle.protocol.specs.Numbers.{not_supported}
 use Rattle.protocol.specs.declared.FlashKind.{FlashKind}
 use Rattle.protocol.specs.declared.Blob.TheVariants.{Flash, Base}
-use Rattle.protocol.specs.Inside.{BlobInside}
 use Rattle.protocol.specs.declared.Blob.{Blob}
 use Rattle.rules.specs.Named.{delete_blob}
 use Rattle.state.specs.State.{State, state_of}
 use Rattle.name_delete.proofs.delete.Goals as goal
 
-pub delete_store-requires : goal.delete_store-requires
-delete_store-requires c = ((subst (BlobInside c.args.message.now) c.in-Store.is c.requires.0).ends, search rules)
-
 pub returns-in-Store : goal.returns-in-Store
 returns-in-Store c =
     λ i h x.
     let a = c.args in
-    c.delete_store.ensures i h x ∙ ap (λ (b : Blob). delete_blob b a.message.now (state_of a.control.now a.table.now a.names.now a.committed.now a.staged.now i h)) (sym c.in-Store.is)
+    let s = state_of a.control.now a.table.now a.names.now a.committed.now a.staged.now i h in
+    c.delete_store.ensures i h x ∙ delete-lent c.in-Store.start c.in-Store.len a.message.now s ∙ ap (λ (b : Blob). delete_blob b a.message.now s) (sym c.in-Store.is)
 
 -- a flash name and the base
 not-stored : {b : Blob} (m : List ℕ) (s : State) → ((kind : FlashKind) × (b ≡ Flash kind)) ⊎ (b ≡ Base) → (refused not_supported, s) ≡ delete_blob b m s

@@ -12,7 +12,7 @@ returns-in_default c =
     λ i h x.
     let a = c.args in
     let s = state_of a.control.now a.table.now a.names.now a.committed.now a.staged.now i h in
-    (delete-none a.start a.len a.message.now s (slot-in s c.find_name.ensures c.in_default.is))
+    (delete-none a.name.now s (slot-in s c.find_name.ensures c.in_default.is))
 
 pub overflow_cast-k : goal.overflow_cast-k
 overflow_cast-k c =
@@ -24,7 +24,7 @@ returns-in_default-find_row c =
     λ i h x.
     let a = c.args in
     let s = state_of a.control.now a.table.now a.names.now a.committed.now a.staged.now i h in
-    (delete-busy a.start a.len a.message.now s c.in-Some.k (slot-in s c.find_name.ensures c.in-Some.is) _ (row_in s c.find_row.ensures c.in_default-find_row.is))
+    (delete-busy a.name.now s c.in-Some.k (slot-in s c.find_name.ensures c.in-Some.is) _ (row_in s c.find_row.ensures c.in_default-find_row.is))
 
 pub free_slot-requires : goal.free_slot-requires
 free_slot-requires c =
@@ -36,5 +36,5 @@ returns c =
     let a = c.args in
     let s = state_of a.control.now a.table.now a.names.now a.committed.now a.staged.now i h in
     (ap (λ (y : State). (done, y)) (c.free_slot.ensures a.table.now i h)
-    ∙ delete-ok a.start a.len a.message.now s c.in-Some.k (slot-in s c.find_name.ensures c.in-Some.is)
+    ∙ delete-ok a.name.now s c.in-Some.k (slot-in s c.find_name.ensures c.in-Some.is)
     (row_in s c.find_row.ensures c.in-None.is))

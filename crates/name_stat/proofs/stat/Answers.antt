@@ -1,18 +1,17 @@
 -- `stat`: by what the name names.
-use Rattle.std.proofs.Common.{sym, ◌∙◌, ap, subst}
-use Rattle.protocol.specs.Inside.{BlobInside}
+use Rattle.std.proofs.Common.{sym, ◌∙◌, ap}
+use Rattle.name_stat.specs.Laws.{store-lent}
 use Rattle.protocol.specs.declared.Blob.{Blob}
 use Rattle.rules.specs.Named.{stat_blob}
 use Rattle.state.specs.State.{state_of}
 use Rattle.name_stat.proofs.stat.Goals as goal
 
-pub stat_store-requires : goal.stat_store-requires
-stat_store-requires c = ((subst (BlobInside c.args.message.now) c.in-Store.is c.requires.0).ends, c.requires.1)
-
 pub returns-in-Store : goal.returns-in-Store
 returns-in-Store c =
-    λ d g i h x. let a = c.args in c.stat_store.ensures d g i h x ∙ ap
-    (λ (b : Blob). stat_blob b a.message.now (state_of a.control a.table.now a.names.now d g i h)) (sym c.in-Store.is)
+    λ d g i h x.
+    let a = c.args in
+    let s = state_of a.control a.table.now a.names.now d g i h in
+    c.stat_store.ensures d g i h x ∙ store-lent c.in-Store.start c.in-Store.len a.message.now s ∙ ap (λ (b : Blob). stat_blob b a.message.now s) (sym c.in-Store.is)
 
 pub returns-in-Flash : goal.returns-in-Flash
 returns-in-Flash c =

@@ -12,7 +12,7 @@ returns-in_default c =
     λ d g i h _.
     let a = c.args in
     let s = state_of a.control a.table.now a.names.now d g i h in
-    store-none a.start a.len a.message.now s (slot-in s c.find_name.ensures c.in_default.is)
+    store-none a.name.now s (slot-in s c.find_name.ensures c.in_default.is)
 
 pub overflow_cast-k : goal.overflow_cast-k
 overflow_cast-k c = let l : c.in-Some.k < slot_count = slot-low c.find_name.ensures c.in-Some.is in omega arith
@@ -26,15 +26,15 @@ returns-in_default-find_row c =
     let a = c.args in
     let s = state_of a.control a.table.now a.names.now d g i h in
     ap (λ (x : ℕ). reply (stat_fields state_committed x)) c.seen_length.ensures
-    ∙ store-closed a.start a.len a.message.now s c.in-Some.k (slot-in s c.find_name.ensures c.in-Some.is) (row_in s c.find_row.ensures c.in_default-find_row.is)
+    ∙ store-closed a.name.now s c.in-Some.k (slot-in s c.find_name.ensures c.in-Some.is) (row_in s c.find_row.ensures c.in_default-find_row.is)
 
 pub stat_row-requires : goal.stat_row-requires
-stat_row-requires c = (row_low c.find_row.ensures c.in-Some-find_row.is, c.requires.1.0)
+stat_row-requires c = (row_low c.find_row.ensures c.in-Some-find_row.is, c.requires.0)
 
 pub returns : goal.returns
 returns c =
     λ d g i h x.
     let a = c.args in
     let s = state_of a.control a.table.now a.names.now d g i h in
-    c.stat_row.ensures a.names.now d g i h x ∙ store-open a.start a.len a.message.now s c.in-Some.k (slot-in s c.find_name.ensures c.in-Some.is)
+    c.stat_row.ensures a.names.now d g i h x ∙ store-open a.name.now s c.in-Some.k (slot-in s c.find_name.ensures c.in-Some.is)
     c.in-Some-find_row.r (row_in s c.find_row.ensures c.in-Some-find_row.is)

@@ -1,6 +1,5 @@
 -- `new_slot`: the name and the bit that are set; all else stays.
 use Rattle.std.proofs.Common.{ap, arith}
-use Rattle.laws.specs.Ranges.{part}
 use Rattle.open_steps.specs.Laws.{named_put}
 use Rattle.protocol.proofs.Sizes.{name-size}
 use Rattle.state.specs.State.{Slots, store_of, state_of, in_store}
@@ -14,4 +13,4 @@ returns c =
     λ t d g i h.
     let a = c.args in
     ap (λ (x : Slots). in_store.put x (state_of a.control.now t a.names.now d g i h))
-    (named_put a.k (part a.start a.len a.message.now) (store_of a.control.now a.names.now d g) _ _ c.put_name.ensures c.set_bit-control.ensures)
+    (named_put a.k a.name.now (store_of a.control.now a.names.now d g) _ _ c.put_name.ensures c.set_bit-control.ensures)

@@ -1,6 +1,5 @@
 -- `open_new`: no free row, no free slot, or the slot and then the row are taken.
 use Rattle.std.proofs.Common.{◌∙◌, ap, arith, [], List, ℕ}
-use Rattle.laws.specs.Ranges.{part}
 use Rattle.open_steps.proofs.Free.{lowest-is, lowest-low, none-free, full}
 use Rattle.open_steps.specs.Steps.{row_opened}
 use Rattle.open_store.specs.Laws.{new-no-row, new-no-slot, new_ok}
@@ -18,7 +17,7 @@ returns-in_err-r c =
     λ d g i h x _.
     let s = given (goal.at.returns-in_err-r c).Start d g i h in
     rw (full c.from_residual.ensures.1 c.in_err-r.ensures.value c.in_err-r.ensures.ok_part)
-    (new-no-row (part a.start a.len a.message.now) a.flags a.clock s (none-free _ c.lowest_free.ensures c.in_err-r.ensures.ok_part))
+    (new-no-row a.name.now a.flags a.clock s (none-free _ c.lowest_free.ensures c.in_err-r.ensures.ok_part))
 
 pub returns-in_err-k : goal.returns-in_err-k
 returns-in_err-k c =
@@ -26,7 +25,7 @@ returns-in_err-k c =
     λ d g i h x _.
     let s = given (goal.at.returns-in_err-k c).Start d g i h in
     rw (full c.from_residual-in_err-k.ensures.1 c.in_err-k.ensures.value c.in_err-k.ensures.ok_part)
-    (new-no-slot (part a.start a.len a.message.now) a.flags a.clock s c.in_ok-r.r (lowest-is _ c.lowest_free.ensures c.in_ok-r.ensures.ok_part)
+    (new-no-slot a.name.now a.flags a.clock s c.in_ok-r.r (lowest-is _ c.lowest_free.ensures c.in_ok-r.ensures.ok_part)
     (none-free _ c.lowest_free-2.ensures c.in_err-k.ensures.ok_part))
 
 pub new_slot-requires : goal.new_slot-requires
@@ -47,5 +46,5 @@ returns c =
     let s = given (goal.at.returns c).Start d g i h in
     c.open_row.ensures c.new_slot.new.names d g i h x
     ∙ ap (row_opened c.in_ok-r.r c.in_ok-k.k a.flags 0 a.clock) (c.new_slot.ensures a.table.now d g i h)
-    ∙ new_ok (part a.start a.len a.message.now) a.flags a.clock s c.in_ok-r.r (lowest-is _ c.lowest_free.ensures c.in_ok-r.ensures.ok_part)
+    ∙ new_ok a.name.now a.flags a.clock s c.in_ok-r.r (lowest-is _ c.lowest_free.ensures c.in_ok-r.ensures.ok_part)
     c.in_ok-k.k (lowest-is _ c.lowest_free-2.ensures c.in_ok-k.ensures.ok_part) z

@@ -1,6 +1,5 @@
 -- `open_store`: flags, the name held or not, then its function.
 use Rattle.std.proofs.Common.{sym, ◌∙◌, List, ℕ}
-use Rattle.laws.specs.Ranges.{part}
 use Rattle.lookup.specs.Search.{slot-in, slot-low}
 use Rattle.open_store.specs.Laws.{flags-bad, name-held, name-absent, name_new}
 use Rattle.state.specs.State.{State, state_of}
@@ -16,7 +15,7 @@ returns-then-not-store_flags c =
     let a = c.args in
     λ i h x.
     let s = given (goal.at.returns-then-not-store_flags c).Start i h in
-    flags-bad (part a.start a.len a.message.now) a.flags a.clock s (sym c.store_flags.ensures ∙ c.if-not-store_flags.true)
+    flags-bad a.name.now a.flags a.clock s (sym c.store_flags.ensures ∙ c.if-not-store_flags.true)
 
 pub open_held-requires : goal.open_held-requires
 open_held-requires c =
@@ -29,7 +28,7 @@ returns-in-Some c =
     let a = c.args in
     let s = given (goal.at.returns-in-Some c).Start i h in
     c.open_held.ensures a.names.now i h x
-    ∙ name-held (part a.start a.len a.message.now) a.flags a.clock s (sym c.store_flags.ensures ∙ c.if-not-store_flags.false)
+    ∙ name-held a.name.now a.flags a.clock s (sym c.store_flags.ensures ∙ c.if-not-store_flags.false)
     c.in-Some.k (slot-in s c.find_name.ensures c.in-Some.is)
 
 pub returns-then-not-writes_with : goal.returns-then-not-writes_with
@@ -37,7 +36,7 @@ returns-then-not-writes_with c =
     let a = c.args in
     λ i h x.
     let s = given (goal.at.returns-then-not-writes_with c).Start i h in
-    name-absent (part a.start a.len a.message.now) a.flags a.clock s
+    name-absent a.name.now a.flags a.clock s
     (sym c.store_flags.ensures ∙ c.if-not-store_flags.false) (slot-in s c.find_name.ensures c.in_default.is)
     (sym c.writes_with.ensures ∙ c.if-not-writes_with.true)
 
@@ -47,5 +46,5 @@ returns c =
     let a = c.args in
     let s = given (goal.at.returns c).Start i h in
     c.open_new.ensures a.committed.now a.staged.now i h x c.requires.1.1.1.1.1.1
-    ∙ name_new (part a.start a.len a.message.now) a.flags a.clock s (sym c.store_flags.ensures ∙ c.if-not-store_flags.false)
+    ∙ name_new a.name.now a.flags a.clock s (sym c.store_flags.ensures ∙ c.if-not-store_flags.false)
     (slot-in s c.find_name.ensures c.in_default.is) (sym c.writes_with.ensures ∙ c.if-not-writes_with.false)

@@ -1,6 +1,5 @@
 -- `fill_slot`: each part of the slot from the step that makes it.
 use Rattle.std.proofs.Common.{◌≡◌, ◌∙◌, ap, List, ℕ, ◌≤◌, arith, length, set}
-use Rattle.std.proofs.Math.Seq.{take-length}
 use Rattle.laws.specs.Bytes.{padded}
 use Rattle.laws.specs.Ranges.{block}
 use Rattle.protocol.proofs.Sizes.{slot-size}
@@ -21,10 +20,10 @@ pub put_name-requires : goal.put_name-requires
 put_name-requires c =
     let p = c.requires in
     let l : length c.last_field-name.result.now ≡ length (scan_at c.args.file.now c.args.blob).name = ap length c.last_field-name.ensures in
-    (p.1.0, (p.0, (omega (arith, name-short _ _ p.1.1.1), omega arith)))
+    (p.1.0, (p.0, omega (arith, name-short _ _ p.1.1.1)))
 
 pub put_region-requires : goal.put_region-requires
-put_region-requires c = let p = c.requires in (p.1.1.0, (p.0, (short (goal.at.put_region-requires c).After-last_field-scan, omega arith)))
+put_region-requires c = let p = c.requires in (p.1.1.0, (p.0, short (goal.at.put_region-requires c).After-last_field-scan))
 
 pub overflow_cast-control : goal.overflow_cast-control
 overflow_cast-control c = omega (arith, short (goal.at.overflow_cast-control c).After-last_field-scan, slot-size)
@@ -34,8 +33,8 @@ returns c =
     λ t g i h z.
     let a = c.args in
     let v = a.control.now in
-    let n = c.put_name.ensures ∙ ap (λ (w : List ℕ). (block name_size a.k).put (padded name_size w) a.names.now) (take-length _ ∙ c.last_field-name.ensures) in
-    let w = c.put_region.ensures ∙ ap (λ (w : List ℕ). (block slot_size a.k).put (padded slot_size w) a.committed.now) (take-length _ ∙ c.last_field-scan.ensures) in
+    let n = c.put_name.ensures ∙ ap (λ (w : List ℕ). (block name_size a.k).put (padded name_size w) a.names.now) c.last_field-name.ensures in
+    let w = c.put_region.ensures ∙ ap (λ (w : List ℕ). (block slot_size a.k).put (padded slot_size w) a.committed.now) c.last_field-scan.ensures in
     let l = long (goal.at.returns c).After-last_field-scan in
     let s = zero-block slot_size a.k slot_count g c.requires.0 z in
     λ j. record {
