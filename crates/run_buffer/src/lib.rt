@@ -73,12 +73,7 @@ pub struct Ran {
 // Answers one whole record after another, from the front of `records` on, while a longest line has room in the text. The lines stand at the
 // front of the text. What is lent besides is lent to the library. The state is tested once: a request leaves a sound state sound, and an
 // unsound one as it is.
-pub fn run(
-    records: &[u8],
-    memory: &mut Memory<'_>,
-    answer: &mut [u8],
-    text: &mut [u8],
-) -> Ran
+pub fn run(records: &[u8], memory: &mut Memory<'_>, answer: &mut [u8], text: &mut [u8]) -> Ran
     ensures same_memory { SameMemory memory.old memory.new }
     ensures text_after { written_of result memory.new answer.new text.new ≡ ran records.now (state_in memory.old) answer.old text.old }
     ensures len_in_bounds { (result.len ≤ length text.new) × (result.used ≤ length records.now) }
@@ -96,9 +91,7 @@ pub fn run(
         else {
             break;
         };
-        end = answer_one(
-            able, records, clock, start, len, memory, answer, text, end,
-        );
+        end = answer_one(able, records, clock, start, len, memory, answer, text, end);
         used = next;
     }
     Ran { len: end, used }

@@ -18,8 +18,8 @@ returns-in_err-end_job-clause-taken c =
     let a = c.args in
     let passed = err_from_is_err_and c.from_residual.result c.from_residual.ensures.1 in
     rw (passed.1, passed.2) (
-      outcome-taken a.good (state_of a.control a.table.now a.names.now a.committed.now a.staged.now a.image.now a.hash.now) (sym c.sound.ensures ∙ c.if-not-sound.false) _ _ _
-          (c.end_job.ensures.ended 0 a.names.now a.committed.now a.staged.now a.image.now a.hash.now []) (refused-code c.end_job.result _ c.in_err-end_job.was)
+    outcome-taken a.good (state_of a.control a.table.now a.names.now a.committed.now a.staged.now a.image.now a.hash.now) (sym c.sound.ensures ∙ c.if-not-sound.false) _ _ _
+    (c.end_job.ensures.ended 0 a.names.now a.committed.now a.staged.now a.image.now a.hash.now []) (refused-code c.end_job.result _ c.in_err-end_job.was)
     )
 
 pub returns-clause-taken : goal.returns-clause-taken
