@@ -2,7 +2,6 @@
 #![tactic(auto)]
 
 ghost use Rattle.std.specs.Prelude.{◌≡◌, ◌+◌, ◌*◌, ◌≤◌, cond, [], length, drop, replicate};
-ghost use Rattle.laws.specs.Ranges.{part};
 ghost use Rattle.protocol.specs.Numbers.{row_count, row_words, slot_count, name_size, slot_size, image_size, hash_size};
 ghost use Rattle.protocol.specs.Frame.{laid};
 ghost use Rattle.state.specs.State.{state_of};
@@ -38,26 +37,23 @@ pub fn fresh() -> Control
     }
 }
 
-// One request, the len bytes from `start` on: it is answered, and its line is written at the place `at` of the text; the place behind the line.
+// One request: it is answered, and its line is written at the place `at` of the text; the place behind the line.
 // `able` says whether the state is sound and the answer buffer has its size.
 fn answer_one(
     able: bool,
-    records: &[u8],
+    request: &[u8],
     clock: u32,
-    start: usize,
-    len: usize,
     memory: &mut Memory<'_>,
     answer: &mut [u8],
     text: &mut [u8],
     at: usize,
 ) -> usize
     requires able_value { able ≡ answerable (state_in memory.old) answer.old }
-    requires len_in_bounds { (start + len ≤ length records.now) × (at + line_most ≤ length text.old) }
+    requires room_for_line { at + line_most ≤ length text.old }
     ensures same_memory { SameMemory memory.old memory.new }
-    ensures stepped { stepped_of result memory.new answer.new text.new ≡ stepped (served clock (part start len records.now) (state_in memory.old) answer.old) text.old at }
+    ensures stepped { stepped_of result memory.new answer.new text.new ≡ stepped (served clock request.now (state_in memory.old) answer.old) text.old at }
 {
-    let behind = start + len;
-    match request_answer::answer(able, &records[start..behind], clock, memory, answer) {
+    match request_answer::answer(able, request, clock, memory, answer) {
         Ok(size) => write_line(Code::SUCCESS, answer, size, text, at),
         Err(code) => write_line(code, answer, 0, text, at),
     }
@@ -91,7 +87,8 @@ pub fn run(records: &[u8], memory: &mut Memory<'_>, answer: &mut [u8], text: &mu
         else {
             break;
         };
-        end = answer_one(able, records, clock, start, len, memory, answer, text, end);
+        let request = &records[start..start + len];
+        end = answer_one(able, request, clock, memory, answer, text, end);
         used = next;
     }
     Ran { len: end, used }

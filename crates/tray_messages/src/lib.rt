@@ -2,7 +2,6 @@
 #![tactic(auto)]
 
 ghost use Rattle.std.specs.Prelude.{◌≡◌, Ok, true, ◌+◌, ◌*◌, ◌/◌, ◌%◌, ◌≤◌, ◌<◌, length};
-ghost use Rattle.laws.specs.Ranges.{part};
 ghost use Rattle.protocol.specs.Numbers.{answer_size};
 ghost use Rattle.state.specs.Memory.{state_in, SameMemory};
 ghost use Rattle.state.specs.Soundness.{is_sound};
@@ -48,30 +47,21 @@ pub fn packed_sent(sent: Result<usize, Code>) -> u32
     }
 }
 
-// Answers one message, the size bytes from `start` on. Its response is written at the place `at` of the buffer; all other bytes stay.
+// Answers one message. Its response is written at the place `at` of the buffer; all other bytes stay.
 fn answer_at(
-    records: &[u8],
+    message: &[u8],
     clock: u32,
-    start: usize,
-    size: usize,
     memory: &mut Memory<'_>,
     responses: &mut [u8],
     at: usize,
 ) -> Result<usize, Code>
     requires sound { is_sound (state_in memory.old) ≡ true }
-    requires in_bounds { (start + size ≤ length records.now) × (at + answer_size ≤ length responses.old) }
+    requires in_bounds { at + answer_size ≤ length responses.old }
     ensures same_memory { SameMemory memory.old memory.new }
-    ensures served { served_of result memory.new responses.new ≡ served_at (respond clock (part start size records.now) (state_in memory.old)) responses.old at }
+    ensures served { served_of result memory.new responses.new ≡ served_at (respond clock message.now (state_in memory.old)) responses.old at }
 {
-    let behind = start + size;
     let end = at + ANSWER_SIZE;
-    request_answer::answer(
-        true,
-        &records[start..behind],
-        clock,
-        memory,
-        &mut responses[at..end],
-    )
+    request_answer::answer(true, message, clock, memory, &mut responses[at..end])
 }
 
 // Answers the messages of the first 64 records one after the other, while the free bytes are enough for any response.
@@ -99,7 +89,8 @@ pub fn answer_all(
         else {
             break;
         };
-        let sent = answer_at(records, clock, start, len, memory, responses, end);
+        let message = &records[start..start + len];
+        let sent = answer_at(message, clock, memory, responses, end);
         results[done] = packed_sent(sent);
         at = next;
         done += 1;

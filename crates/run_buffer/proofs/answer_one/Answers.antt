@@ -1,9 +1,6 @@
 -- `answer_one`: what the library's function leaves, then its line.
-use Rattle.std.proofs.Common.{◌∙◌, ap, List, ℕ, arith}
-use Rattle.laws.specs.Ranges.{lent-part}
-use Rattle.rules.specs.Respond.{served}
+use Rattle.std.proofs.Common.{arith}
 use Rattle.run_buffer.specs.Progress.{reply-fits, step_is}
-use Rattle.state.specs.Memory.{state_in}
 use Rattle.run_buffer.proofs.answer_one.Goals as goal
 
 pub answer-requires : goal.answer-requires
@@ -12,21 +9,17 @@ answer-requires c = c.requires.able_value
 pub write_line-requires : goal.write_line-requires
 write_line-requires c =
     let fits = reply-fits _ _ _ _ c.in-Ok.ensures.served in
-    (fits.0, (fits.1, c.requires.len_in_bounds.1))
+    (fits.0, (fits.1, c.requires.room_for_line))
 
 pub write_line-requires-in-Err : goal.write_line-requires-in-Err
-write_line-requires-in-Err c = (omega arith, (omega arith, c.requires.len_in_bounds.1))
+write_line-requires-in-Err c = (omega arith, (omega arith, c.requires.room_for_line))
 
 pub returns-in-Ok-clause-stepped : goal.returns-in-Ok-clause-stepped
 returns-in-Ok-clause-stepped c =
     let a = c.args in
-    step_is a.text.now a.at
-    (c.in-Ok.ensures.served ∙ ap (λ (m : List ℕ). served a.clock m (state_in a.memory.now) a.answer.now) (lent-part a.start a.len a.records.now))
-    c.write_line.ensures
+    step_is a.text.now a.at c.in-Ok.ensures.served c.write_line.ensures
 
 pub returns-in-Err-clause-stepped : goal.returns-in-Err-clause-stepped
 returns-in-Err-clause-stepped c =
     let a = c.args in
-    step_is a.text.now a.at
-    (c.in-Err.ensures.served ∙ ap (λ (m : List ℕ). served a.clock m (state_in a.memory.now) a.answer.now) (lent-part a.start a.len a.records.now))
-    c.write_line-in-Err.ensures
+    step_is a.text.now a.at c.in-Err.ensures.served c.write_line-in-Err.ensures

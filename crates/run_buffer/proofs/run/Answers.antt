@@ -1,14 +1,16 @@
 -- `run`: the run over the bytes so far, then the run over those that are left.
-use Rattle.std.proofs.Common.{sym, ◌∙◌, ap, Bool, ◌&&◌, ◌+◌, ◌≤◌, arith, eqb, length}
+use Rattle.std.proofs.Common.{sym, ◌∙◌, ap, Bool, ◌&&◌, ◌+◌, ◌≤◌, ◌<◌, List, ℕ, arith, eqb, length, rules}
+use Rattle.laws.specs.Ranges.{lent-part}
 use Rattle.protocol.specs.Numbers.{answer_size}
 use Rattle.records.proofs.Found.{Found, found, found_in, found_none}
 use Rattle.request_answer.specs.Call.{answerable}
 use Rattle.run_buffer.specs.Progress.{begins, ends-full, ends-none, goes_to, able-kept}
-use Rattle.run_buffer.specs.Step.{Stepped}
+use Rattle.run_buffer.specs.Step.{Stepped, stepped}
+use Rattle.rules.specs.Respond.{served}
 use Rattle.run_lines.specs.Lines.{line_most}
-use Rattle.state.specs.Memory.{same-memory, same-then}
+use Rattle.state.specs.Memory.{state_in, same-memory, same-then}
 use Rattle.run_buffer.proofs.run.Goals as goal
-use Rattle.run_buffer.proofs.run.Goals.{In-Whole}
+use Rattle.run_buffer.proofs.run.Goals.{In-Whole, Start}
 
 pub loop-text-init : goal.loop-text-init
 loop-text-init c = (begins _ _ _ _, same-memory _, ap (λ (y : Bool). y && eqb (length c.args.answer.now) answer_size) c.is_sound.ensures)
@@ -18,6 +20,10 @@ overflow_sub-text c = let p = c.loop-text.invariant.0 in omega arith
 
 pub record_at-requires : goal.record_at-requires
 record_at-requires c = tt
+
+-- no buffer is longer than an address can be
+bounded : (c : Start) → length c.args.records.now < 18446744073709551616
+bounded c = search rules
 
 -- the record that the code found, and the room for its line
 record-found : (c : In-Whole) → Found c.args.records.now c.loop-text.used c.in-Whole.clock c.in-Whole.start
@@ -31,15 +37,18 @@ room c =
     let q = l.invariant.0.as_long in
     omega (arith, c.loop-text-test.true)
 
+-- the request lies in the records
+pub overflow_add-request : goal.overflow_add-request
+overflow_add-request c = let f = (found_in (record-found (goal.at.overflow_add-request c).In-Whole)).0 in omega (arith, f, bounded (goal.at.overflow_add-request c).Start)
+
+pub slice_bounds-request-end : goal.slice_bounds-request-end
+slice_bounds-request-end c = (found_in (record-found (goal.at.slice_bounds-request-end c).In-Whole)).0
+
 pub answer_one-end-requires : goal.answer_one-end-requires
 answer_one-end-requires c =
     record {
       able_value = c.loop-text.invariant.2;
-      len_in_bounds = (
-        (found_in (record-found (goal.at.answer_one-end-requires c).In-Whole)).0,
-        rw
-            c.loop-text.invariant.0.as_long (room (goal.at.answer_one-end-requires c).In-Whole),
-      );
+      room_for_line = rw c.loop-text.invariant.0.as_long (room (goal.at.answer_one-end-requires c).In-Whole);
     }
 
 pub loop-text-smaller : goal.loop-text-smaller
@@ -52,7 +61,9 @@ loop-text-smaller c =
 pub loop-text-preserved : goal.loop-text-preserved
 loop-text-preserved c =
     let l = c.loop-text in (
-      goes_to _ _ _ _ _ _ _ _ _ l.invariant.0 (record-found (goal.at.loop-text-preserved c).In-Whole) (room (goal.at.loop-text-preserved c).In-Whole) c.answer_one-end.ensures.stepped,
+      goes_to _ _ _ _ _ _ _ _ _ l.invariant.0 (record-found (goal.at.loop-text-preserved c).In-Whole) (room (goal.at.loop-text-preserved c).In-Whole)
+          (c.answer_one-end.ensures.stepped ∙ ap (λ (m : List ℕ). stepped (served c.in-Whole.clock m (state_in l.memory) l.answer) l.text l.end)
+          (lent-part c.in-Whole.start c.in-Whole.len c.args.records.now)),
       same-then l.invariant.1 c.answer_one-end.ensures.same_memory,
       l.invariant.2 ∙ sym (able-kept _ _ _ _) ∙ ap (λ (w : Stepped). answerable w.state w.answer) (sym c.answer_one-end.ensures.stepped),
     )
