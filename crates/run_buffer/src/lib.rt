@@ -54,8 +54,8 @@ fn answer_one(
     ensures stepped { stepped_of result memory.new answer.new text.new ≡ stepped (served clock request.now (state_in memory.old) answer.old) text.old at }
 {
     match request_answer::answer(able, request, clock, memory, answer) {
-        Ok(size) => write_line(Code::SUCCESS, answer, size, text, at),
-        Err(code) => write_line(code, answer, 0, text, at),
+        Ok(size) => write_line(Code::SUCCESS, &answer[..size], text, at),
+        Err(code) => write_line(code, &[], text, at),
     }
 }
 

@@ -63,11 +63,11 @@ fn write_answer(code: Code, response: &[u8], text: &mut [u8], at: usize) -> usiz
 }
 
 // A line is written at a place; all other bytes stay; the place behind it.
-pub fn write_line(code: Code, answer: &[u8], len: usize, text: &mut [u8], at: usize) -> usize
-    requires { (len ≤ answer_size) × ((len ≤ length answer.now) × (at + line_most ≤ length text.old)) }
-    ensures { (result ≡ at + length (line_of code.0 (take len answer.now))) × (text.new ≡ sets text.old at (line_of code.0 (take len answer.now))) }
+pub fn write_line(code: Code, response: &[u8], text: &mut [u8], at: usize) -> usize
+    requires { (length response.now ≤ answer_size) × (at + line_most ≤ length text.old) }
+    ensures { (result ≡ at + length (line_of code.0 response.now)) × (text.new ≡ sets text.old at (line_of code.0 response.now)) }
 {
-    let end = write_answer(code, &answer[..len], text, at);
+    let end = write_answer(code, response, text, at);
     text[end] = b'\n';
     end + 1
 }
