@@ -1,7 +1,7 @@
 // The program's output over a buffer: a line written at a place.
 #![tactic(auto)]
 
-ghost use Rattle.std.specs.Prelude.{◌≡◌, ◌+◌, ◌*◌, ◌≤◌, ◌<◌, length, take};
+ghost use Rattle.std.specs.Prelude.{◌≡◌, ◌+◌, ◌*◌, ◌≤◌, ◌<◌, length};
 ghost use Rattle.std.proofs.lemmas.List.Edits.{sets};
 ghost use Rattle.protocol.specs.Numbers.{answer_size};
 ghost use Rattle.run_lines.specs.Lines.{digit_of, hex_of, hexes, answer_text, line_of, line_most, cut_line};
