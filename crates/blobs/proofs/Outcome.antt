@@ -30,7 +30,7 @@ quiet (refused c) = refl
 quiet done = refl
 quiet (reply f) = refl
 
--- what a command said is silent; a refusal has its code
+-- the code of a success, and of a refusal
 pub said-code : (r : Outcome) (said : Said) → r ≡ Ok said → success ≡ (silent (reply_of r [])).0
 unfolding silent
 said-code r Done e = rw e

@@ -17,7 +17,7 @@ const FILTER_PLACES: u64 = FILTER_WORDS as u64 * WORD_BITS as u64;
 // Places of each name.
 pub const PROBES: u32 = 8;
 
-// The upper half of a product of 64 bits begins here, and the lower half ends.
+// Two to the 32nd: divided by it, a number of 64 bits gives its upper 32 bits, and the remainder is the lower 32.
 const HALF: u64 = 4294967296;
 
 // What the hash of no bytes is, and what a hash is multiplied by before a byte is added.
@@ -58,7 +58,7 @@ fn place(hash: u32, i: u32) -> usize
     ((spread / HALF + u64::from(i) * stride) % FILTER_PLACES) as usize
 }
 
-// The bits, numbered through.
+// A filter: bit number n is bit n % 32 of word n / 32.
 #[derive(Clone, Copy)]
 pub struct Filter {
     pub words: [u32; FILTER_WORDS],

@@ -143,7 +143,7 @@ impl Cabinet {
         Err(StoreError::NotSound)
     }
 
-    // The new file, whose own path is `name`, takes the place of the one at `path` once all of the store is written and has reached its device.
+    // The store is written to the new file, whose path is `name`. Once it has reached its device, that file takes the place of the one at `path`.
     fn replace<R: Files>(
         &self,
         rt: &R,
@@ -184,7 +184,7 @@ fn settle(file: &impl OpenFile) -> io::Result<()> {
     file.sync_all()
 }
 
-// A path beside another, the last characters of which are chosen.
+// A path beside another: that one, a dot, and characters chosen at random.
 fn name_beside<R: Alloc + RandomSource>(rt: &R, path: &str) -> io::Result<String<R::A>> {
     let mut random = [0u8; CHOSEN_SIZE];
     rt.fill_bytes(&mut random)?;

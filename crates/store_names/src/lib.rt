@@ -23,7 +23,7 @@ const CLASSES_LEAST: usize = 8;
 
 const CLASS_NAMES: usize = 16384;
 
-// At most one blob has a name.
+// At most one blob of the file has this name.
 fn stands_once(file: &[u8], name: &[u8]) -> bool
     ensures { result ≡ leb (count_named name.now (scans_from file.now 0)) 1 }
 {

@@ -12,7 +12,7 @@ use std::io::{ErrorKind, Read};
 use std::rt::Files;
 use std::{fmt, io, str};
 
-// The longest path, as the longest word of the command that is taken.
+// The longest path that is taken, and so the longest word of the command.
 pub const PATH_MOST: usize = 4096;
 
 // What std writes behind the system's own words for an error, before the error's number.
@@ -61,7 +61,7 @@ fn words_of(text: &str) -> &str {
     }
 }
 
-// What was done with a file, standard input or standard output, by a failure that names it.
+// The same result, where an error also names the file, standard input or standard output that it is about.
 pub fn about<'a, T, W>(what: &'a [u8], done: Result<T, W>) -> Result<T, Failure<'a, W>>
     ensures ok { IfOk done (λ value. IsOkAnd result (λ kept. kept ≡ value)) }
     ensures err { IfErr done (λ why. IsErrAnd result (λ failure. failure ≡ Failure.Of what.entry why)) }

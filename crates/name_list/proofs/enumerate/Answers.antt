@@ -20,7 +20,7 @@ listed-is : (c : In-Some) (t d g i h : List ℕ) (x : Listed) → c.in-Some.list
 listed-is c t d g i h x p =
     ap (λ (y : Option Listed). listed_reply y c.args.names.now) (sym (c.in-Some.is ∙ ap Some p)) ∙ c.listed_at.ensures.0 t c.args.names.now d g i h
 
--- every flash name is shorter than a slot's field
+-- every flash name fits a slot's field
 flash-name-short : (k : FlashKind) → length (flash_name k) ≤ name_size
 unfolding flash_folder flash_word
 flash-name-short Image = omega (arith, name-size)

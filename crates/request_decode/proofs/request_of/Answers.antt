@@ -55,7 +55,9 @@ overflow_cast-result-in-WriteMeta c = let a = c.args in record { fits = first-fi
 
 pub overflow_cast-result-in-Commit-2 : goal.overflow_cast-result-in-Commit-2
 unfolding widths_of
-overflow_cast-result-in-Commit-2 c = let a = c.args in record { fits = fits c.args.message.now (λ i. (c.type_inv.message i).fits) 1 4 _ (ap (λ (g : Fields). g.second) (found-at a.sub a.message.now a.f c.requires.1 Commit c.in-Commit.is)) }
+overflow_cast-result-in-Commit-2 c =
+    let a = c.args in
+    record { fits = fits a.message.now (λ i. (c.type_inv.message i).fits) 1 4 _ (ap (λ (g : Fields). g.second) (found-at a.sub a.message.now a.f c.requires.1 Commit c.in-Commit.is)) }
 
 pub returns-in-Count : goal.returns-in-Count
 unfolding asked
