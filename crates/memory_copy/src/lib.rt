@@ -9,7 +9,10 @@ pub fn copy_at<T: Copy>(dst: &mut [T], at: usize, src: &[T])
     requires { at + length src.now ≤ length dst.old }
     ensures { dst.new ≡ sets dst.old at src.now }
 {
-    dst[at..at + src.len()].copy_from_slice(src);
+    // Value by value, which becomes a call of memcpy; copy_from_slice becomes one of memmove.
+    for i in 0..src.len() {
+        dst[at + i] = src[i];
+    }
 }
 
 // n zeros are stored into dst from `at` on.
