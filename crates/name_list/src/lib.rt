@@ -110,16 +110,33 @@ fn lay_slot(k: usize, names: &[u8], answer: &mut [u8]) -> Said
     lay(&names[at..nul], answer)
 }
 
-// The characters of a flash name.
-fn flash_name(kind: FlashKind) -> &'static [u8]
-    ensures { result.now ≡ flash_name kind }
+// A flash name. Each is a value of its own here, and no reference to one of them: a table of references would have to be told, when the archive is loaded,
+// where it lies.
+fn lay_flash(kind: FlashKind, answer: &mut [u8]) -> Said
+    requires { AnswerLent answer.old }
+    ensures { Answers (reply (flash_name kind ++ (0 ∷ []))) (Ok result) answer.old answer.new }
 {
     match kind {
-        FlashKind::Image => &protocol::FLASH_IMAGE,
-        FlashKind::Hash => &protocol::FLASH_HASH,
-        FlashKind::Verify => &protocol::FLASH_VERIFY,
-        FlashKind::Update => &protocol::FLASH_UPDATE,
-        FlashKind::Cleanup => &protocol::FLASH_CLEANUP,
+        FlashKind::Image => {
+            let name = protocol::FLASH_IMAGE;
+            lay(&name, answer)
+        }
+        FlashKind::Hash => {
+            let name = protocol::FLASH_HASH;
+            lay(&name, answer)
+        }
+        FlashKind::Verify => {
+            let name = protocol::FLASH_VERIFY;
+            lay(&name, answer)
+        }
+        FlashKind::Update => {
+            let name = protocol::FLASH_UPDATE;
+            lay(&name, answer)
+        }
+        FlashKind::Cleanup => {
+            let name = protocol::FLASH_CLEANUP;
+            lay(&name, answer)
+        }
     }
 }
 
@@ -139,6 +156,6 @@ pub fn enumerate(
     Ok(match listed {
         Listed::Base => lay(&protocol::BASE, answer),
         Listed::Slot(k) => lay_slot(k, names, answer),
-        Listed::Flash(kind) => lay(flash_name(kind), answer),
+        Listed::Flash(kind) => lay_flash(kind, answer),
     })
 }

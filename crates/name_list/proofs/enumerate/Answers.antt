@@ -1,14 +1,11 @@
 -- `enumerate`: each kind of listed name is laid by its function.
-use Rattle.std.proofs.Common.{◌≡◌, ◌≤◌, refl, sym, ◌∙◌, ap, subst, arith, Some, Ok, List, [], ◌∷◌, ◌++◌, ℕ, length}
+use Rattle.std.proofs.Common.{◌≡◌, refl, sym, ◌∙◌, ap, subst, arith, Some, Ok, List, ℕ}
 use Rattle.std.specs.Prelude.{Option}
 use Rattle.name_list.specs.Listed.{InStore, listed_reply, Answers}
 use Rattle.name_list.specs.declared.Listed.{Listed}
 use Rattle.protocol.proofs.Sizes.{name-size}
-use Rattle.protocol.specs.Frame.{Reply, reply}
-use Rattle.protocol.specs.Names.{base, flash_name, flash_folder, flash_word}
-use Rattle.protocol.specs.Numbers.{name_size}
-use Rattle.protocol.specs.declared.FlashKind.{FlashKind}
-use Rattle.protocol.specs.declared.FlashKind.TheVariants.{Image, Hash, Verify, Update, Cleanup}
+use Rattle.protocol.specs.Frame.{Reply}
+use Rattle.protocol.specs.Names.{base}
 use Rattle.rules.specs.Listing.{enumerated}
 use Rattle.state.specs.State.{state_of}
 use Rattle.name_list.proofs.enumerate.Goals as goal
@@ -20,23 +17,14 @@ listed-is : (c : In-Some) (t d g i h : List ℕ) (x : Listed) → c.in-Some.list
 listed-is c t d g i h x p =
     ap (λ (y : Option Listed). listed_reply y c.args.names.now) (sym (c.in-Some.is ∙ ap Some p)) ∙ c.listed_at.ensures.0 t c.args.names.now d g i h
 
--- every flash name fits a slot's field
-flash-name-short : (k : FlashKind) → length (flash_name k) ≤ name_size
-unfolding flash_folder flash_word
-flash-name-short Image = omega (arith, name-size)
-flash-name-short Hash = omega (arith, name-size)
-flash-name-short Verify = omega (arith, name-size)
-flash-name-short Update = omega (arith, name-size)
-flash-name-short Cleanup = omega (arith, name-size)
-
 pub lay-requires : goal.lay-requires
 lay-requires c = (omega (arith, name-size), c.requires.1.1)
 
 pub lay_slot-requires : goal.lay_slot-requires
 lay_slot-requires c = (subst InStore (c.in-Some.is ∙ ap Some c.in-Slot.is) c.listed_at.ensures.1, (c.requires.1.0, c.requires.1.1))
 
-pub lay-requires-in-Flash : goal.lay-requires-in-Flash
-lay-requires-in-Flash c = (omega (arith, ap length c.flash_name.ensures, flash-name-short c.in-Flash.kind), c.requires.1.1)
+pub lay_flash-requires : goal.lay_flash-requires
+lay_flash-requires c = c.requires.1.1
 
 pub returns-in-Base : goal.returns-in-Base
 unfolding base
@@ -52,9 +40,7 @@ returns-in-Slot c = λ t d g i h.
 pub returns-in-Flash : goal.returns-in-Flash
 returns-in-Flash c = λ t d g i h.
     let a = c.args in
-    subst (λ (r : Reply). Answers r (Ok c.lay-in-Flash.result) a.answer.now c.lay-in-Flash.new.answer)
-    (ap (λ (n : List ℕ). reply (n ++ (0 ∷ []))) c.flash_name.ensures ∙ listed-is (goal.at.returns-in-Flash c).In-Some t d g i h _ c.in-Flash.is)
-    c.lay-in-Flash.ensures
+    subst (λ (r : Reply). Answers r (Ok c.lay_flash.result) a.answer.now c.lay_flash.new.answer) (listed-is (goal.at.returns-in-Flash c).In-Some t d g i h _ c.in-Flash.is) c.lay_flash.ensures
 
 pub returns-in_default : goal.returns-in_default
 returns-in_default c = λ t d g i h.
