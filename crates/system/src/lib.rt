@@ -18,6 +18,20 @@ pub const PATH_MOST: usize = 4096;
 // What std writes behind the system's own words for an error, before the error's number.
 const NUMBER: &str = " (os error ";
 
+// A path, or the path of a new file, at the front of a buffer of its own, so that none has to be asked of the heap.
+#[derive(Drop)]
+pub struct PathBytes {
+    pub bytes: [u8; PATH_MOST],
+    pub len: usize,
+}
+
+impl PathBytes {
+    // The path. It fits into the buffer; a length that did not would give no bytes.
+    pub fn path(&self) -> &[u8] {
+        self.bytes.get(..self.len).unwrap_or_default()
+    }
+}
+
 // Why the words of the command are not understood.
 #[derive(Clone, Copy, Debug, PartialEq, Eq)]
 pub enum Usage {
