@@ -17,8 +17,8 @@ const FILTER_PLACES: u64 = FILTER_WORDS as u64 * WORD_BITS as u64;
 // Places of each name.
 pub const PROBES: u32 = 8;
 
-// Two to the 32nd: divided by it, a number of 64 bits gives its upper 32 bits, and the remainder is the lower 32.
-const HALF: u64 = 4294967296;
+// Two to the 32nd, which every hash is below. Divided by it, a number of 64 bits gives its upper 32 bits, and the remainder is the lower 32.
+pub const HASH_LIMIT: u64 = 4294967296;
 
 // What the hash of no bytes is, and what a hash is multiplied by before a byte is added.
 const HASH_START: u32 = 2166136261;
@@ -54,8 +54,8 @@ fn place(hash: u32, i: u32) -> usize
     ensures { (result ≡ place_of hash i) × (result < 262144) }
 {
     let spread = u64::from(hash) * SPREAD_FACTOR;
-    let stride = spread % HALF / STRIDE_UNIT * 2 + 1;
-    ((spread / HALF + u64::from(i) * stride) % FILTER_PLACES) as usize
+    let stride = spread % HASH_LIMIT / STRIDE_UNIT * 2 + 1;
+    ((spread / HASH_LIMIT + u64::from(i) * stride) % FILTER_PLACES) as usize
 }
 
 // A filter: bit number n is bit n % 32 of word n / 32.

@@ -47,6 +47,9 @@ pub enum Status {
 }
 
 impl Status {
+    // How many there are.
+    pub const COUNT: u32 = 4;
+
     // Its number in a row's third word.
     pub fn number(self) -> u32
         ensures { result ≡ status_number self }
@@ -85,7 +88,7 @@ impl Status {
 }
 
 // How far an update of the flash has come.
-#[derive(Clone, Copy)]
+#[derive(Clone, Copy, PartialEq, Eq)]
 pub enum Phase {
     Idle,
     Uploading,

@@ -64,7 +64,7 @@ impl Entry {
     pub fn status(self) -> Status
         ensures { status_number result ≡ status_in self.word }
     {
-        match self.word / STATUS_UNIT % 4 {
+        match self.word / STATUS_UNIT % Status::COUNT {
             0 => Status::Untried,
             1 => Status::Running,
             2 => Status::Succeeded,
