@@ -112,6 +112,23 @@ def other_tree(folder):
         expect("the words that it says", run(["sh", "-c", done.stdout.splitlines()[1].partition(": ")[2]], folder).returncode, 0)
 
 
+def needed(folder):
+    """The archive needs from outside just the functions of C that README names, so that a program without a C library can bring them."""
+    archive = installed("usr", folder)[1]
+    listed = run([os.environ.get("NM", "nm"), "-u", archive], folder)
+    expect("nm -u", (listed.returncode, listed.stderr), (0, ""))
+    names = {line.split()[1] for line in listed.stdout.splitlines() if line.split()[:1] == ["U"]}
+    said = re.search(r"\*\*What does the archive need\?\*\* \| (.*?), nothing else:", (ROOT / "README.md").read_text(encoding="utf-8"))
+    expect("what the archive needs", sorted(names), sorted(re.findall(r"`(\w+)`", said.group(1))))
+    expect("they are", sorted(names), ["memcpy", "memset"])
+    # and it can lie anywhere: no table in it holds an address, which whoever loads it would have to mend
+    listed = run([os.environ.get("READELF", "readelf"), "-rW", archive], folder)
+    expect("readelf -r", (listed.returncode, listed.stderr), (0, ""))
+    kinds = {line.split()[2] for line in listed.stdout.splitlines() if re.match(r"[0-9a-f]{16} ", line)}
+    expect("relocations", kinds - {"R_X86_64_PC32", "R_X86_64_PLT32"}, set())
+    expect("relocations, any", kinds != set(), True)
+
+
 def refusals(folder):
     """Wrong words, and a tree without an archive: one line, status 1, and nothing is put anywhere."""
     tree = folder / "tree"
@@ -129,7 +146,7 @@ def refusals(folder):
 def main():
     if sys.argv[1:] != ["--check"]:
         sys.exit(__doc__)
-    for test in (in_place, example, other_tree, refusals):
+    for test in (in_place, example, other_tree, needed, refusals):
         with tempfile.TemporaryDirectory() as folder:
             test(pathlib.Path(folder).resolve())
         print(f"install, {test.__name__}: as expected")

@@ -24,7 +24,7 @@ version=$(sed -n 's/^#define KRAMSNEP_VERSION "\(.*\)"$/\1/p' "$header")
 install -d -m 755 "$prefix/include" "$prefix/lib" "$prefix/lib/pkgconfig"
 install -m 644 "$header" "$prefix/include/kramsnep.h"
 install -m 644 "$archive" "$prefix/lib/libkramsnep.a"
-# The archive needs memcpy, memmove and memset, which every C library has, and so no other package.
+# The archive needs memcpy and memset, which every C library has, and so no other package.
 cat >"$prefix/lib/pkgconfig/kramsnep.pc" <<PC
 prefix=$prefix
 includedir=\${prefix}/include
