@@ -1,7 +1,7 @@
 // What the programs ask of the system, over std: words of the command, files to read, and lines about what failed. The functions here only move bytes.
 #![tactic(auto)]
 
-ghost use Rattle.std.specs.Prelude.{◌≡◌, ◌≤◌, ◌<◌, length, take, IfOk, IfErr, IsOkAnd, IsErrAnd, IfSome, IfNone, OnSome};
+ghost use Rattle.std.specs.Prelude.{◌≡◌, ◌≤◌, ◌<◌, length, take, IfOk, IfErr, IsOkAnd, IsErrAnd, IfSome, IfNone, OnSome, []};
 ghost use Rattle.std.specs.Io.KnownBytes.{Consumes, IsAtEnd};
 ghost use Rattle.system.specs.Counts.{IsPrefixLen};
 
@@ -27,7 +27,10 @@ pub struct PathBytes {
 
 impl PathBytes {
     // The path. It fits into the buffer; a length that did not would give no bytes.
-    pub fn path(&self) -> &[u8] {
+    pub fn path(&self) -> &[u8]
+        ensures within { self.now.len ≤ length self.now.bytes → result.now ≡ take self.now.len self.now.bytes }
+        ensures past { length self.now.bytes < self.now.len → result.now ≡ [] }
+    {
         self.bytes.get(..self.len).unwrap_or_default()
     }
 }
